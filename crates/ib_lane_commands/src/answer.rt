@@ -20,6 +20,7 @@ use ib_commands::words::word_of;
 use ib_lane_counts::count::count_lane_routes;
 use ib_lane_counts::counts::LaneCounts;
 use ib_lane_lines::answer::{LaneAnswer, LevelsAsked};
+use ib_lane_routes::routing::LaneRouting;
 use ib_lane_verdict::judge::LaneJudgement;
 use ib_lines::answer::Routes;
 use ib_routes::traffic::Traffic;
@@ -68,14 +69,14 @@ fn counts_for(alloc: Global, input: &Input, traffic: Traffic) -> Result<LaneCoun
     ensures { IfOk result (AreLaneCounts input.now.topology.fabric (tables_of input.now.tables.cells)
         (lanes_of input.now.lanes) traffic (levels_of input.now.levels)) }
 {
-    count_lane_routes(
-        alloc,
-        &input.topology.fabric,
-        &input.tables.cells,
-        &input.lanes,
-        &input.levels,
+    let routing = LaneRouting {
+        fabric: &input.topology.fabric,
+        cells: &input.tables.cells,
+        lanes: &input.lanes,
+        levels: &input.levels,
         traffic,
-    )
+    };
+    count_lane_routes(alloc, &routing)
 }
 
 fn routes_of(counts: LaneCounts) -> Routes

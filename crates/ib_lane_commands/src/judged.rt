@@ -14,6 +14,7 @@ ghost use Rattle.ib_lane_commands.specs.LaneJudged.{IsLaneEndOf, IsLaneLoop};
 use crate::input::Input;
 use an_base::memory::OutOfMemory;
 use ib_answering::status::Status;
+use ib_lane_routes::routing::LaneRouting;
 use ib_lane_verdict::judge::{LaneJudgement, judge};
 use ib_lane_verdict::verdict::{LaneLoopChannel, LaneVerdict};
 use ib_routes::traffic::Traffic;
@@ -29,14 +30,14 @@ pub fn judged_for(
     ensures { IfOk result (IsLaneJudgement input.now.topology.fabric (tables_of input.now.tables.cells)
         (lanes_of input.now.lanes) traffic (levels_of input.now.levels) input.now.lanes.count) }
 {
-    judge(
-        alloc,
-        &input.topology.fabric,
-        &input.tables.cells,
-        &input.lanes,
-        &input.levels,
+    let routing = LaneRouting {
+        fabric: &input.topology.fabric,
+        cells: &input.tables.cells,
+        lanes: &input.lanes,
+        levels: &input.levels,
         traffic,
-    )
+    };
+    judge(alloc, &routing)
 }
 
 /// How a call ends for which something was written.

@@ -6,11 +6,13 @@ use Rattle.ib_counts.specs.Counts.{Route}
 use Rattle.ib_counts.specs.Steps.{place_of}
 use Rattle.ib_lane_counts.specs.declared.counts.LaneCounts.{LaneCounts}
 use Rattle.ib_lane_counts.specs.declared.counts.LostLaneRoute.{LostLaneRoute}
-use Rattle.ib_lane_counts.specs.declared.more.BegunRoute.{BegunRoute}
 use Rattle.ib_lane_counts.specs.declared.room.Rooms.{Rooms}
+use Rattle.ib_lane_counts.specs.declared.route.BegunRoute.{BegunRoute}
 use Rattle.ib_lane_counts.specs.LaneCounts.{AreCountsOf, IsLaneRouteOf, IsSilent, LaneRoute}
 use Rattle.ib_lane_routes.specs.declared.hop.LaneOutcome.{LaneOutcome}
 use Rattle.ib_lane_routes.specs.declared.hop.LaneOutcome.TheVariants as lane
+use Rattle.ib_lane_routes.specs.declared.routing.LaneRouting.{LaneRouting}
+use Rattle.ib_lane_routes.specs.LaneRoutes.{LaneSends}
 use Rattle.ib_net.specs.declared.node.EndPort.{EndPort}
 use Rattle.ib_net.specs.Fabric.{FabricOf, guid_of}
 use Rattle.ib_routes.specs.Counting.{IsCountOf}
@@ -18,6 +20,7 @@ use Rattle.ib_routes.specs.declared.hop.Outcome.{Outcome}
 use Rattle.ib_routes.specs.declared.hop.Outcome.TheVariants.{Arrives, Stops, Loops}
 use Rattle.ib_routes.specs.declared.traffic.Traffic.{Traffic}
 use Rattle.ib_rows.specs.Lanes.{LanesOf}
+use Rattle.ib_rows.specs.Levels.{levels_of}
 use Rattle.ib_rows.specs.PathLevels.{LevelsOf}
 
 -- how a route ends on lanes that ends so on one lane, if nothing discards it
@@ -42,18 +45,25 @@ IsSilentUntil fabric traffic levels lid place pair =
     IsSilent fabric traffic levels pair
     × ((pair.lid < lid) ⊎ ((pair.lid ≡ lid) × (place_of fabric pair.source < place)))
 
--- what goes by a route
-abbrev pub route_of : BegunRoute → LaneRoute
-route_of route = record { lid = route.lid; source = route.source; level = route.level }
+-- Of a routing, the routes before those of an end port to a LID with a level or a greater one ..
+abbrev pub IsBeforeLevel : LaneRouting → (lid : ℕ) → EndPort → (level : ℕ) → LaneRoute → Type 0
+IsBeforeLevel routing lid source =
+    IsUntil routing.fabric.now routing.traffic (levels_of routing.levels.now) lid
+    (place_of routing.fabric.now source)
 
--- the routes before one, and those up to it
-abbrev pub IsBefore : FabricOf → Traffic → LevelsOf → BegunRoute → LaneRoute → Type 0
-IsBefore fabric traffic levels route =
-    IsUntil fabric traffic levels route.lid (place_of fabric route.source) route.level
+-- .. the routes before one ..
+abbrev pub IsBefore : LaneRouting → BegunRoute → LaneRoute → Type 0
+IsBefore routing route = IsBeforeLevel routing route.lid route.source route.level
 
-abbrev pub IsUpTo : FabricOf → Traffic → LevelsOf → BegunRoute → LaneRoute → Type 0
-IsUpTo fabric traffic levels route =
-    IsUntil fabric traffic levels route.lid (place_of fabric route.source) (route.level + 1)
+-- .. and those up to it
+abbrev pub IsUpTo : LaneRouting → BegunRoute → LaneRoute → Type 0
+IsUpTo routing route = IsBeforeLevel routing route.lid route.source (route.level + 1)
+
+-- a route is one of the traffic and levels of a routing
+abbrev pub IsSent : LaneRouting → BegunRoute → Type 0
+IsSent routing route =
+    LaneSends routing.fabric.now routing.traffic (levels_of routing.levels.now) route.lid route.source
+    route.level
 
 -- a route to a LID is to be told in place of the least one so far, if there is one
 abbrev pub IsLesser : FabricOf → Option LostLaneRoute → ℕ → EndPort → Type 0

@@ -2,26 +2,25 @@
 
 ghost use Rattle.std.specs.Prelude.{◌≡◌, ◌<◌, ◌≤◌, ◌*◌, ◌^◌, ℕ, cond, IfSome};
 ghost use Rattle.std.specs.Int.{bit_at};
-ghost use Rattle.ib_cells.specs.Cells.{TablesOf, tables_of};
+ghost use Rattle.ib_cells.specs.Cells.{TablesOf};
 ghost use Rattle.ib_lane_counts.specs.Ends.{AreEnds, AreReady};
 ghost use Rattle.ib_lane_counts.specs.Steps.{on_lanes};
 ghost use Rattle.ib_lane_routes.specs.declared.hop.LaneOutcome.TheVariants.{Discards};
 ghost use Rattle.ib_lane_routes.specs.LaneRoutes.{LaneEndsAs, lane_hop};
 ghost use Rattle.ib_net.specs.declared.node.Spot.{Spot};
+ghost use Rattle.ib_lane_routes.specs.Routing.{by_lanes};
 ghost use Rattle.ib_net.specs.Fabric.{FabricOf, switch_count};
 ghost use Rattle.ib_routes.specs.declared.hop.Outcome.TheVariants.{Arrives};
-ghost use Rattle.ib_rows.specs.Lanes.{LanesOf, lanes_of};
+ghost use Rattle.ib_rows.specs.Lanes.{LanesOf};
 
 use crate::gone::gone_from;
 use crate::room::Rooms;
-use ib_cells::cells::Cells;
 use ib_counts::count::end_from;
 use ib_lane_routes::hop::LaneOutcome;
-use ib_net::fabric::Fabric;
+use ib_lane_routes::routing::LaneRouting;
 use ib_net::node::Spot;
 use ib_routes::hop::Outcome;
 use ib_routes::word::has_bit;
-use ib_rows::lanes::LaneRows;
 
 /// How they end, from a port of a switch on.
 #[derive(Clone, Copy)]
@@ -75,26 +74,24 @@ impl Ends {
 
 impl Rooms {
     /// How the routes to a LID end, from a port of a switch on.
-    pub fn ends_from(
-        &mut self,
-        fabric: &Fabric,
-        cells: &Cells,
-        lanes: &LaneRows,
-        lid: u16,
-        start: Spot,
-    ) -> Ends
-        requires same { switch_count fabric.now ≡ cells.now.switches }
-        requires lanes { switch_count fabric.now ≡ lanes.now.switches }
-        requires few { switch_count fabric.now ≤ 2 ^ 14 }
-        requires lid { lid < 64 * cells.now.blocks }
-        requires start { start.switch < switch_count fabric.now }
-        requires ready { AreReady fabric.now (tables_of cells.now) (lanes_of lanes.now) lid self.old }
-        ensures ready { AreReady fabric.now (tables_of cells.now) (lanes_of lanes.now) lid self.new }
-        ensures ends { AreEnds fabric.now (tables_of cells.now) (lanes_of lanes.now) lid start result }
+    pub fn ends_from(&mut self, routing: &LaneRouting<'_>, lid: u16, start: Spot) -> Ends
+        requires few { switch_count routing.now.fabric.now ≤ 2 ^ 14 }
+        requires lid { lid < 64 * routing.now.cells.now.blocks }
+        requires start { start.switch < switch_count routing.now.fabric.now }
+        requires ready { by_lanes AreReady routing.now lid self.old }
+        ensures ready { by_lanes AreReady routing.now lid self.new }
+        ensures ends { by_lanes AreEnds routing.now lid start result }
     {
         let at = start.switch as usize;
-        let outcome = end_from(fabric, cells, lid, &mut self.marks, &mut self.path, at);
-        let gone = gone_from(fabric, cells, lanes, lid, &self.gone, start);
+        let outcome = end_from(
+            routing.fabric,
+            routing.cells,
+            lid,
+            &mut self.marks,
+            &mut self.path,
+            at,
+        );
+        let gone = gone_from(routing, lid, &self.gone, start);
         Ends { outcome, gone }
     }
 }

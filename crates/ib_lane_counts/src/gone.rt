@@ -7,12 +7,12 @@ ghost use Rattle.ib_cells.specs.Cells.{tables_of};
 ghost use Rattle.ib_lane_counts.specs.Gone.{AreGone, AreOnFifteen, IsGoneAt, IsGoneFrom, IsGoneNext, IsJoined};
 ghost use Rattle.ib_lane_counts.specs.Gone.{IsSettled, lane_by_row};
 ghost use Rattle.ib_lane_routes.specs.LaneExits.{IsExit, exit_of};
+ghost use Rattle.ib_lane_routes.specs.Routing.{by_lanes};
 ghost use Rattle.ib_net.specs.Fabric.{switch_count};
 ghost use Rattle.ib_rows.specs.Lanes.{lanes_of};
 
-use ib_cells::cells::Cells;
 use ib_lane_routes::hop::{Exit, find_exit};
-use ib_net::fabric::Fabric;
+use ib_lane_routes::routing::LaneRouting;
 use ib_net::node::{Side, Spot};
 use ib_routes::word::{fresh_of, joined, with_bit};
 use ib_rows::lanes::{DISCARD, LaneRows, lane_in};
@@ -45,54 +45,41 @@ pub fn gone_by(lanes: &LaneRows, at: Spot, port: u8) -> u64
 }
 
 // By which port a switch sends what goes to a LID. Blocks have 64 LIDs.
-fn exit_to(fabric: &Fabric, cells: &Cells, lid: u16, switch: usize) -> Exit
-    requires same { switch_count fabric.now ≡ cells.now.switches }
-    requires lid { lid < 64 * cells.now.blocks }
-    requires switch { switch < switch_count fabric.now }
-    ensures exit { result ≡ exit_of fabric.now switch (tables_of cells.now switch lid) }
-    ensures within { IsExit fabric.now switch result }
+fn exit_to(routing: &LaneRouting<'_>, lid: u16, switch: usize) -> Exit
+    requires lid { lid < 64 * routing.now.cells.now.blocks }
+    requires switch { switch < switch_count routing.now.fabric.now }
+    ensures exit { result ≡ exit_of routing.now.fabric.now switch (tables_of routing.now.cells.now switch lid) }
+    ensures within { IsExit routing.now.fabric.now switch result }
 {
-    find_exit(fabric, cells, switch, lid as usize / 64, lid as usize % 64)
+    let lid = lid as usize;
+    find_exit(routing.fabric, routing.cells, switch, lid / 64, lid % 64)
 }
 
 // The levels, as bits, with which a switch discards what goes to a LID and came in by a port.
-fn gone_at(fabric: &Fabric, cells: &Cells, lanes: &LaneRows, lid: u16, at: Spot) -> u64
-    requires same { switch_count fabric.now ≡ cells.now.switches }
-    requires lanes { switch_count fabric.now ≡ lanes.now.switches }
-    requires lid { lid < 64 * cells.now.blocks }
-    requires at { at.switch < switch_count fabric.now }
-    ensures { (level : ℕ) → ((bit_at result level ≡ 1)
-        ↔ IsGoneAt fabric.now (tables_of cells.now) (lanes_of lanes.now) lid at level) }
+fn gone_at(routing: &LaneRouting<'_>, lid: u16, at: Spot) -> u64
+    requires lid { lid < 64 * routing.now.cells.now.blocks }
+    requires at { at.switch < switch_count routing.now.fabric.now }
+    ensures { (level : ℕ) → ((bit_at result level ≡ 1) ↔ by_lanes IsGoneAt routing.now lid at level) }
 {
-    match exit_to(fabric, cells, lid, at.switch as usize) {
+    match exit_to(routing, lid, at.switch as usize) {
         Exit::Nowhere => 0,
         Exit::Own => 0,
         Exit::By(port, side) => match side {
             Side::Bare => 0,
-            Side::To(_, _) => gone_by(lanes, at, port),
-            Side::End(_) => gone_by(lanes, at, port),
+            Side::To(_, _) => gone_by(routing.lanes, at, port),
+            Side::End(_) => gone_by(routing.lanes, at, port),
         },
     }
 }
 
 // Those with which it is discarded after it left a switch: at the next one, or after that as the words tell.
-fn gone_next(
-    fabric: &Fabric,
-    cells: &Cells,
-    lanes: &LaneRows,
-    lid: u16,
-    gone: &[u64],
-    switch: usize,
-) -> u64
-    requires same { switch_count fabric.now ≡ cells.now.switches }
-    requires lanes { switch_count fabric.now ≡ lanes.now.switches }
-    requires lid { lid < 64 * cells.now.blocks }
-    requires count { length gone.now ≡ switch_count fabric.now }
-    requires switch { switch < switch_count fabric.now }
-    ensures { (level : ℕ) → ((bit_at result level ≡ 1)
-        ↔ IsGoneNext fabric.now (tables_of cells.now) (lanes_of lanes.now) lid gone.now switch level) }
+fn gone_next(routing: &LaneRouting<'_>, lid: u16, gone: &[u64], switch: usize) -> u64
+    requires lid { lid < 64 * routing.now.cells.now.blocks }
+    requires count { length gone.now ≡ switch_count routing.now.fabric.now }
+    requires switch { switch < switch_count routing.now.fabric.now }
+    ensures { (level : ℕ) → ((bit_at result level ≡ 1) ↔ by_lanes IsGoneNext routing.now lid gone.now switch level) }
 {
-    match exit_to(fabric, cells, lid, switch) {
+    match exit_to(routing, lid, switch) {
         Exit::Nowhere => 0,
         Exit::Own => 0,
         Exit::By(_, side) => match side {
@@ -102,7 +89,7 @@ fn gone_next(
                     switch: next,
                     port: entry,
                 };
-                gone_at(fabric, cells, lanes, lid, at) | gone[next as usize]
+                gone_at(routing, lid, at) | gone[next as usize]
             }
             Side::End(_) => 0,
         },
@@ -110,27 +97,16 @@ fn gone_next(
 }
 
 // Joins the word of a switch by those. Answers whether it changed.
-fn join_next(
-    fabric: &Fabric,
-    cells: &Cells,
-    lanes: &LaneRows,
-    lid: u16,
-    gone: &mut [u64],
-    switch: usize,
-) -> bool
-    requires same { switch_count fabric.now ≡ cells.now.switches }
-    requires lanes { switch_count fabric.now ≡ lanes.now.switches }
-    requires lid { lid < 64 * cells.now.blocks }
-    requires count { length gone.old ≡ switch_count fabric.now }
-    requires switch { switch < switch_count fabric.now }
-    ensures joined { OnTrue result
-        (IsJoined fabric.now (tables_of cells.now) (lanes_of lanes.now) lid switch gone.old gone.new) }
+fn join_next(routing: &LaneRouting<'_>, lid: u16, gone: &mut [u64], switch: usize) -> bool
+    requires lid { lid < 64 * routing.now.cells.now.blocks }
+    requires count { length gone.old ≡ switch_count routing.now.fabric.now }
+    requires switch { switch < switch_count routing.now.fabric.now }
+    ensures joined { OnTrue result (by_lanes IsJoined routing.now lid switch gone.old gone.new) }
     ensures same { OnFalse result (gone.new ≡ gone.old) }
-    ensures settled { OnFalse result
-        (IsSettled fabric.now (tables_of cells.now) (lanes_of lanes.now) lid gone.old switch) }
+    ensures settled { OnFalse result (by_lanes IsSettled routing.now lid gone.old switch) }
 {
     let had = gone[switch];
-    let fresh = fresh_of(gone_next(fabric, cells, lanes, lid, gone, switch), had);
+    let fresh = fresh_of(gone_next(routing, lid, gone, switch), had);
     if fresh == 0 {
         return false;
     }
@@ -139,20 +115,18 @@ fn join_next(
 }
 
 /// Puts for each switch the levels, as bits, with which what goes to a LID is discarded after it left the switch.
-pub fn put_gone(fabric: &Fabric, cells: &Cells, lanes: &LaneRows, lid: u16, gone: &mut [u64])
-    requires same { switch_count fabric.now ≡ cells.now.switches }
-    requires lanes { switch_count fabric.now ≡ lanes.now.switches }
-    requires lid { lid < 64 * cells.now.blocks }
-    requires count { length gone.old ≡ switch_count fabric.now }
-    ensures { AreGone fabric.now (tables_of cells.now) (lanes_of lanes.now) lid gone.new }
+pub fn put_gone(routing: &LaneRouting<'_>, lid: u16, gone: &mut [u64])
+    requires lid { lid < 64 * routing.now.cells.now.blocks }
+    requires count { length gone.old ≡ switch_count routing.now.fabric.now }
+    ensures { by_lanes AreGone routing.now lid gone.new }
 {
-    let switches = fabric.switches();
+    let switches = routing.fabric.switches();
     gone.fill(0);
     let mut fresh = true;
     'rounds: while fresh {
         fresh = false;
         'switches: for switch in 0..switches {
-            if join_next(fabric, cells, lanes, lid, gone, switch) {
+            if join_next(routing, lid, gone, switch) {
                 fresh = true;
             }
         }
@@ -160,22 +134,12 @@ pub fn put_gone(fabric: &Fabric, cells: &Cells, lanes: &LaneRows, lid: u16, gone
 }
 
 /// The levels, as bits, with which what goes to a LID is discarded, from a port of a switch on by which it came in.
-pub fn gone_from(
-    fabric: &Fabric,
-    cells: &Cells,
-    lanes: &LaneRows,
-    lid: u16,
-    gone: &[u64],
-    at: Spot,
-) -> u64
-    requires same { switch_count fabric.now ≡ cells.now.switches }
-    requires lanes { switch_count fabric.now ≡ lanes.now.switches }
-    requires lid { lid < 64 * cells.now.blocks }
-    requires at { at.switch < switch_count fabric.now }
-    requires count { length gone.now ≡ switch_count fabric.now }
-    requires gone { AreGone fabric.now (tables_of cells.now) (lanes_of lanes.now) lid gone.now }
-    ensures { (level : ℕ) → ((bit_at result level ≡ 1)
-        ↔ IsGoneFrom fabric.now (tables_of cells.now) (lanes_of lanes.now) lid at level) }
+pub fn gone_from(routing: &LaneRouting<'_>, lid: u16, gone: &[u64], at: Spot) -> u64
+    requires lid { lid < 64 * routing.now.cells.now.blocks }
+    requires at { at.switch < switch_count routing.now.fabric.now }
+    requires count { length gone.now ≡ switch_count routing.now.fabric.now }
+    requires gone { by_lanes AreGone routing.now lid gone.now }
+    ensures { (level : ℕ) → ((bit_at result level ≡ 1) ↔ by_lanes IsGoneFrom routing.now lid at level) }
 {
-    gone_at(fabric, cells, lanes, lid, at) | gone[at.switch as usize]
+    gone_at(routing, lid, at) | gone[at.switch as usize]
 }

@@ -15,5 +15,6 @@ mod keep;
 mod lost;
 mod more;
 mod room;
+mod route;
 mod source;
 mod sums;

@@ -1,36 +1,20 @@
 //! Counts with one route more.
 
 ghost use Rattle.std.specs.Prelude.{◌≡◌, ◌<◌, ◌≤◌, ◌+◌, ◌*◌, ◌^◌, ◌↔◌, None, Some, IsTrue, max};
-ghost use Rattle.ib_cells.specs.Cells.{tables_of};
 ghost use Rattle.ib_lane_counts.specs.LaneCounts.{AreCountsOf, AreLosses, IsLaneLost, IsLoss, lane_sum_of};
-ghost use Rattle.ib_lane_counts.specs.Steps.{IsBefore, IsLesser, IsUpTo};
-ghost use Rattle.ib_lane_routes.specs.LaneRoutes.{LaneEndsAs, LaneSends, begin_of, lane_hop};
+ghost use Rattle.ib_lane_counts.specs.Steps.{IsBefore, IsLesser, IsSent, IsUpTo};
+ghost use Rattle.ib_lane_routes.specs.LaneRoutes.{LaneEndsAs, begin_of};
+ghost use Rattle.ib_lane_routes.specs.Routing.{by_lanes, hop_by};
 ghost use Rattle.ib_net.specs.Fabric.{switch_count};
-ghost use Rattle.ib_routes.specs.declared.traffic.Traffic.{Traffic};
-ghost use Rattle.ib_rows.specs.Lanes.{lanes_of};
-ghost use Rattle.ib_rows.specs.PathLevels.{LevelsOf};
 
 use crate::counts::{LaneCounts, LaneLoss, LaneLosses, LostLaneRoute};
 use crate::lost::lane_lost_at;
-use ib_cells::cells::Cells;
+use crate::route::BegunRoute;
 use ib_lane_routes::hop::LaneOutcome;
+use ib_lane_routes::routing::LaneRouting;
 use ib_net::fabric::Fabric;
-use ib_net::node::{EndPort, Spot};
+use ib_net::node::EndPort;
 use ib_routes::hop::Cause;
-use ib_rows::lanes::LaneRows;
-
-/// A route, and the port of a switch by which it begins.
-#[derive(Clone, Copy)]
-pub struct BegunRoute {
-    /// The LID to which it leads.
-    pub lid: u16,
-    /// The end port that sends.
-    pub source: EndPort,
-    /// The service level.
-    pub level: u8,
-    /// The port of a switch by which it comes in first: port 0, if the switch itself sends.
-    pub start: Spot,
-}
 
 // Whether a lost route is to be told in place of the one that is: none is, or its LID is the same and its end port has a
 // lesser GUID. Those from one end port come by rising level.
@@ -64,87 +48,53 @@ impl LaneLoss {
     };
 
     // One lost route more.
-    fn add(
-        &mut self,
-        fabric: &Fabric,
-        cells: &Cells,
-        lanes: &LaneRows,
-        route: BegunRoute,
-        outcome: LaneOutcome,
-    )
-        requires same { switch_count fabric.now ≡ cells.now.switches }
-        requires lanes { switch_count fabric.now ≡ lanes.now.switches }
-        requires few { switch_count fabric.now ≤ 2 ^ 14 }
-        requires lid { route.lid < 64 * cells.now.blocks }
+    fn add(&mut self, routing: &LaneRouting<'_>, route: BegunRoute, outcome: LaneOutcome)
+        requires few { switch_count routing.now.fabric.now ≤ 2 ^ 14 }
+        requires lid { route.lid < 64 * routing.now.cells.now.blocks }
         requires level { route.level < 16 }
-        requires start { route.start.switch < switch_count fabric.now }
-        requires begins { begin_of fabric.now route.source ≡ Some route.start }
+        requires start { route.start.switch < switch_count routing.now.fabric.now }
+        requires begins { begin_of routing.now.fabric.now route.source ≡ Some route.start }
         requires fits { self.old.count < 2 ^ 40 }
         ensures count { self.new.count ≡ self.old.count + 1 }
-        ensures loss { (traffic : Traffic) (levels : LevelsOf) → IsLaneLost outcome
-            → LaneSends fabric.now traffic levels route.lid route.source route.level
-            → LaneEndsAs (lane_hop fabric.now (tables_of cells.now) (lanes_of lanes.now) route.level route.lid)
-            route.start outcome
-            → IsLoss fabric.now (tables_of cells.now) (lanes_of lanes.now)
-            (IsBefore fabric.now traffic levels route) outcome self.old
-            → IsLoss fabric.now (tables_of cells.now) (lanes_of lanes.now)
-            (IsUpTo fabric.now traffic levels route) outcome self.new }
+        ensures loss { IsLaneLost outcome → IsSent routing.now route
+            → LaneEndsAs (hop_by routing.now route.level route.lid) route.start outcome
+            → by_lanes IsLoss routing.now (IsBefore routing.now route) outcome self.old
+            → by_lanes IsLoss routing.now (IsUpTo routing.now route) outcome self.new }
     {
         self.count += 1;
-        if !is_less(fabric, self.least, route.lid, route.source) {
+        if !is_less(routing.fabric, self.least, route.lid, route.source) {
             return;
         }
-        let at = lane_lost_at(
-            fabric,
-            cells,
-            lanes,
-            route.level,
-            route.lid,
-            route.start,
-            outcome,
-        );
+        let at = lane_lost_at(routing, route, outcome);
         self.least = Some(route.lost(at));
     }
 }
 
 impl LaneLosses {
     // One lost route more.
-    fn add(
-        &mut self,
-        fabric: &Fabric,
-        cells: &Cells,
-        lanes: &LaneRows,
-        route: BegunRoute,
-        outcome: LaneOutcome,
-    )
-        requires same { switch_count fabric.now ≡ cells.now.switches }
-        requires lanes { switch_count fabric.now ≡ lanes.now.switches }
-        requires few { switch_count fabric.now ≤ 2 ^ 14 }
-        requires lid { route.lid < 64 * cells.now.blocks }
+    fn add(&mut self, routing: &LaneRouting<'_>, route: BegunRoute, outcome: LaneOutcome)
+        requires few { switch_count routing.now.fabric.now ≤ 2 ^ 14 }
+        requires lid { route.lid < 64 * routing.now.cells.now.blocks }
         requires level { route.level < 16 }
-        requires start { route.start.switch < switch_count fabric.now }
-        requires begins { begin_of fabric.now route.source ≡ Some route.start }
+        requires start { route.start.switch < switch_count routing.now.fabric.now }
+        requires begins { begin_of routing.now.fabric.now route.source ≡ Some route.start }
         requires lost { IsLaneLost outcome }
         requires fits { lane_sum_of self.old < 2 ^ 40 }
         ensures sum { lane_sum_of self.new ≡ lane_sum_of self.old + 1 }
-        ensures losses { (traffic : Traffic) (levels : LevelsOf)
-            → LaneSends fabric.now traffic levels route.lid route.source route.level
-            → LaneEndsAs (lane_hop fabric.now (tables_of cells.now) (lanes_of lanes.now) route.level route.lid)
-            route.start outcome
-            → AreLosses fabric.now (tables_of cells.now) (lanes_of lanes.now)
-            (IsBefore fabric.now traffic levels route) self.old
-            → AreLosses fabric.now (tables_of cells.now) (lanes_of lanes.now)
-            (IsUpTo fabric.now traffic levels route) self.new }
+        ensures losses { IsSent routing.now route
+            → LaneEndsAs (hop_by routing.now route.level route.lid) route.start outcome
+            → by_lanes AreLosses routing.now (IsBefore routing.now route) self.old
+            → by_lanes AreLosses routing.now (IsUpTo routing.now route) self.new }
     {
         match outcome {
             LaneOutcome::Arrives(_) => {}
             LaneOutcome::Stops(cause) => match cause {
-                Cause::Missing => self.missing.add(fabric, cells, lanes, route, outcome),
-                Cause::Dead => self.dead.add(fabric, cells, lanes, route, outcome),
-                Cause::Wrong => self.wrong.add(fabric, cells, lanes, route, outcome),
+                Cause::Missing => self.missing.add(routing, route, outcome),
+                Cause::Dead => self.dead.add(routing, route, outcome),
+                Cause::Wrong => self.wrong.add(routing, route, outcome),
             },
-            LaneOutcome::Discards => self.discard.add(fabric, cells, lanes, route, outcome),
-            LaneOutcome::Loops => self.looping.add(fabric, cells, lanes, route, outcome),
+            LaneOutcome::Discards => self.discard.add(routing, route, outcome),
+            LaneOutcome::Loops => self.looping.add(routing, route, outcome),
         }
     }
 }
@@ -182,34 +132,21 @@ impl LaneCounts {
     }
 
     /// One route more, which ends so.
-    pub fn add(
-        &mut self,
-        fabric: &Fabric,
-        cells: &Cells,
-        lanes: &LaneRows,
-        route: BegunRoute,
-        outcome: LaneOutcome,
-    )
-        requires same { switch_count fabric.now ≡ cells.now.switches }
-        requires lanes { switch_count fabric.now ≡ lanes.now.switches }
-        requires few { switch_count fabric.now ≤ 2 ^ 14 }
-        requires lid { route.lid < 64 * cells.now.blocks }
+    pub fn add(&mut self, routing: &LaneRouting<'_>, route: BegunRoute, outcome: LaneOutcome)
+        requires few { switch_count routing.now.fabric.now ≤ 2 ^ 14 }
+        requires lid { route.lid < 64 * routing.now.cells.now.blocks }
         requires level { route.level < 16 }
-        requires start { route.start.switch < switch_count fabric.now }
-        requires begins { begin_of fabric.now route.source ≡ Some route.start }
+        requires start { route.start.switch < switch_count routing.now.fabric.now }
+        requires begins { begin_of routing.now.fabric.now route.source ≡ Some route.start }
         requires all { self.old.routes ≡ self.old.arrived + lane_sum_of self.old.lost }
         requires fits { self.old.routes < 2 ^ 40 }
         ensures routes { self.new.routes ≡ self.old.routes + 1 }
         ensures all { self.new.routes ≡ self.new.arrived + lane_sum_of self.new.lost }
         ensures silent { self.new.silent ≡ self.old.silent }
-        ensures counts { (traffic : Traffic) (levels : LevelsOf)
-            → LaneSends fabric.now traffic levels route.lid route.source route.level
-            → LaneEndsAs (lane_hop fabric.now (tables_of cells.now) (lanes_of lanes.now) route.level route.lid)
-            route.start outcome
-            → AreCountsOf fabric.now (tables_of cells.now) (lanes_of lanes.now)
-            (IsBefore fabric.now traffic levels route) self.old
-            → AreCountsOf fabric.now (tables_of cells.now) (lanes_of lanes.now)
-            (IsUpTo fabric.now traffic levels route) self.new }
+        ensures counts { IsSent routing.now route
+            → LaneEndsAs (hop_by routing.now route.level route.lid) route.start outcome
+            → by_lanes AreCountsOf routing.now (IsBefore routing.now route) self.old
+            → by_lanes AreCountsOf routing.now (IsUpTo routing.now route) self.new }
     {
         self.routes += 1;
         match outcome {
@@ -217,7 +154,7 @@ impl LaneCounts {
                 self.arrived += 1;
                 self.hops = self.hops.max(switches);
             }
-            _ => self.lost.add(fabric, cells, lanes, route, outcome),
+            _ => self.lost.add(routing, route, outcome),
         }
     }
 

@@ -1,4 +1,3 @@
 pub mod HopLemmas
 pub mod OneLaneLemmas
-mod WayLemmas
 pub mod OnLemmas

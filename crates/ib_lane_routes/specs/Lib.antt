@@ -2,3 +2,4 @@ pub mod LaneRoutes
 pub mod LaneExits
 pub mod LaneFound
 pub mod LaneWays
+pub mod Routing

@@ -6,7 +6,9 @@ ghost use Rattle.ib_rows.specs.Lanes.{lanes_of};
 ghost use Rattle.ib_net.specs.Fabric.{owner_of, switch_count};
 ghost use Rattle.ib_lane_routes.specs.LaneRoutes.{lane_hop, lane_hop_over, lane_end_if, on_lane};
 ghost use Rattle.ib_lane_routes.specs.LaneExits.{IsByLaneLink, IsExit, exit_of};
+ghost use Rattle.ib_lane_routes.specs.Routing.{hop_by};
 
+use crate::routing::LaneRouting;
 use ib_cells::cells::Cells;
 use ib_net::fabric::Fabric;
 use ib_net::node::{Side, Spot};
@@ -144,47 +146,30 @@ pub fn hop_through(
     }
 }
 
-/// The hop of a switch for what came in by a port, has a level and goes to a LID of a block.
-#[inline]
-pub fn find_lane_hop(
-    fabric: &Fabric,
-    cells: &Cells,
-    lanes: &LaneRows,
-    level: usize,
-    block: usize,
-    bit: usize,
-    at: Spot,
-) -> LaneHop
-    requires same { switch_count fabric.now ≡ cells.now.switches }
-    requires lanes { switch_count fabric.now ≡ lanes.now.switches }
-    requires level { level < 16 }
-    requires block { block < cells.now.blocks }
-    requires bit { bit < 64 }
-    requires at { at.switch < switch_count fabric.now }
-    ensures hop { result ≡ lane_hop fabric.now (tables_of cells.now) (lanes_of lanes.now) level (64 * block + bit) at }
-    ensures link { IsByLaneLink fabric.now (lanes_of lanes.now) level at result }
-{
-    let exit = find_exit(fabric, cells, at.switch as usize, block, bit);
-    hop_through(fabric, lanes, level, 64 * block + bit, at, exit)
-}
+impl LaneRouting<'_> {
+    /// The hop of a switch for what came in by a port, has a level and goes to a LID of a block: one of 64, by its bit.
+    #[inline]
+    pub fn find_lane_hop(&self, level: usize, block: usize, bit: usize, at: Spot) -> LaneHop
+        requires level { level < 16 }
+        requires block { block < self.now.cells.now.blocks }
+        requires bit { bit < 64 }
+        requires at { at.switch < switch_count self.now.fabric.now }
+        ensures hop { result ≡ hop_by self.now level (64 * block + bit) at }
+        ensures link { IsByLaneLink self.now.fabric.now (lanes_of self.now.lanes.now) level at result }
+    {
+        let exit = find_exit(self.fabric, self.cells, at.switch as usize, block, bit);
+        hop_through(self.fabric, self.lanes, level, 64 * block + bit, at, exit)
+    }
 
-/// The hop of a switch for what came in by a port, has a level and goes to a LID.
-#[inline]
-pub fn lane_hop_at(
-    fabric: &Fabric,
-    cells: &Cells,
-    lanes: &LaneRows,
-    level: usize,
-    lid: usize,
-    at: Spot,
-) -> LaneHop
-    requires same { switch_count fabric.now ≡ cells.now.switches }
-    requires lanes { switch_count fabric.now ≡ lanes.now.switches }
-    requires level { level < 16 }
-    requires lid { lid < 64 * cells.now.blocks }
-    requires at { at.switch < switch_count fabric.now }
-    ensures hop { result ≡ lane_hop fabric.now (tables_of cells.now) (lanes_of lanes.now) level lid at }
-    ensures link { IsByLaneLink fabric.now (lanes_of lanes.now) level at result }
-{
-    find_lane_hop(fabric, cells, lanes, level, lid / 64, lid % 64, at)
+    /// The hop of a switch for what came in by a port, has a level and goes to a LID.
+    #[inline]
+    pub fn lane_hop_at(&self, level: usize, lid: usize, at: Spot) -> LaneHop
+        requires level { level < 16 }
+        requires lid { lid < 64 * self.now.cells.now.blocks }
+        requires at { at.switch < switch_count self.now.fabric.now }
+        ensures hop { result ≡ hop_by self.now level lid at }
+        ensures link { IsByLaneLink self.now.fabric.now (lanes_of self.now.lanes.now) level at result }
+    {
+        self.find_lane_hop(level, lid / 64, lid % 64, at)
+    }
 }

@@ -6,8 +6,7 @@ ghost use Rattle.ib_net.specs.Fabric.{switch_count};
 ghost use Rattle.ib_lane_routes.specs.LaneWays.{HasNoWay, IsWayByLink};
 
 use crate::hop::{Exit, find_exit};
-use ib_cells::cells::Cells;
-use ib_net::fabric::Fabric;
+use crate::routing::LaneRouting;
 use ib_net::node::{Side, Spot};
 
 /// A link by which a switch sends to a switch.
@@ -19,35 +18,33 @@ pub struct Way {
     pub next: Spot,
 }
 
-/// The link by which a switch sends what goes to a LID of a block, if its table has a port for it that leads to a switch.
-#[inline]
-pub fn find_way(
-    fabric: &Fabric,
-    cells: &Cells,
-    switch: usize,
-    block: usize,
-    bit: usize,
-) -> Option<Way>
-    requires same { switch_count fabric.now ≡ cells.now.switches }
-    requires switch { switch < switch_count fabric.now }
-    requires block { block < cells.now.blocks }
-    requires bit { bit < 64 }
-    ensures { MatchOption result (HasNoWay fabric.now (tables_of cells.now) (64 * block + bit) switch)
-        (λ way. IsWayByLink fabric.now (tables_of cells.now) (64 * block + bit) switch way.port way.next) }
-{
-    match find_exit(fabric, cells, switch, block, bit) {
-        Exit::Nowhere => None,
-        Exit::Own => None,
-        Exit::By(port, side) => match side {
-            Side::Bare => None,
-            Side::To(next, entry) => Some(Way {
-                port,
-                next: Spot {
-                    switch: next,
-                    port: entry,
-                },
-            }),
-            Side::End(_) => None,
-        },
+impl LaneRouting<'_> {
+    /// The link by which a switch sends what goes to a LID of a block, if its table has a port for it that leads to a
+    /// switch.
+    #[inline]
+    pub fn find_way(&self, switch: usize, block: usize, bit: usize) -> Option<Way>
+        requires switch { switch < switch_count self.now.fabric.now }
+        requires block { block < self.now.cells.now.blocks }
+        requires bit { bit < 64 }
+        ensures { MatchOption result
+            (HasNoWay self.now.fabric.now (tables_of self.now.cells.now) (64 * block + bit) switch)
+            (λ way. IsWayByLink self.now.fabric.now (tables_of self.now.cells.now) (64 * block + bit) switch
+            way.port way.next) }
+    {
+        match find_exit(self.fabric, self.cells, switch, block, bit) {
+            Exit::Nowhere => None,
+            Exit::Own => None,
+            Exit::By(port, side) => match side {
+                Side::Bare => None,
+                Side::To(next, entry) => Some(Way {
+                    port,
+                    next: Spot {
+                        switch: next,
+                        port: entry,
+                    },
+                }),
+                Side::End(_) => None,
+            },
+        }
     }
 }

@@ -7,6 +7,7 @@ ghost use Rattle.ib_rows.specs.Lanes.{lanes_of};
 ghost use Rattle.ib_rows.specs.Levels.{levels_of};
 ghost use Rattle.ib_lane_routes.specs.LaneFound.{IsLeastLaneWitness};
 ghost use Rattle.ib_lane_routes.specs.LaneRoutes.{LaneDependsOn};
+ghost use Rattle.ib_lane_routes.specs.Routing.{by_routing};
 ghost use Rattle.ib_lane_waves.specs.LaneBlocks.{AreLaneDependencies};
 ghost use Rattle.ib_lane_witness.specs.Witness.{lane_channel_of};
 ghost use Rattle.ib_lane_verdict.specs.LaneJudgements.{IsLaneJudgement};
@@ -16,13 +17,9 @@ use crate::verdict::{LaneLoopChannel, LaneVerdict};
 use an_base::memory::OutOfMemory;
 use channel_graph::graph::Graph;
 use channel_graph::verdict::{Verdict as GraphVerdict, verdict_of};
-use ib_cells::cells::Cells;
+use ib_lane_routes::routing::LaneRouting;
 use ib_lane_waves::find::find_lane_dependencies;
 use ib_lane_witness::witness::{LaneSpot, LaneWitness, find_lane_witness};
-use ib_net::fabric::Fabric;
-use ib_routes::traffic::Traffic;
-use ib_rows::lanes::LaneRows;
-use ib_rows::levels::Levels;
 use ib_verdict::count::count_steps;
 use ib_verdict::links::count_links;
 use std::alloc::Global;
@@ -61,24 +58,16 @@ pub fn lane_spot_of(most: usize, count: usize, place: u32) -> LaneSpot
 // The least route by which a channel depends on another.
 fn witness_of(
     alloc: Global,
-    fabric: &Fabric,
-    cells: &Cells,
-    lanes: &LaneRows,
-    levels: &Levels,
-    traffic: Traffic,
+    routing: &LaneRouting<'_>,
     channel: LaneSpot,
     next: LaneSpot,
 ) -> Result<LaneWitness, OutOfMemory>
-    requires same { switch_count fabric.now ≡ cells.now.switches }
-    requires lanes { switch_count fabric.now ≡ lanes.now.switches }
-    requires owners { length fabric.now.owners ≤ 64 * cells.now.blocks }
-    requires fabric { IsFabric fabric.now }
-    requires depends { LaneDependsOn fabric.now (tables_of cells.now) (lanes_of lanes.now) traffic (levels_of levels.now)
+    requires fabric { IsFabric routing.now.fabric.now }
+    requires depends { by_routing LaneDependsOn routing.now
         (lane_channel_of channel) (lane_channel_of next) }
-    ensures { IfOk result (λ w. IsLeastLaneWitness fabric.now (tables_of cells.now) (lanes_of lanes.now) traffic
-        (levels_of levels.now) (lane_channel_of channel) (lane_channel_of next) w.lid w.source w.level) }
+    ensures { IfOk result (λ w. by_routing IsLeastLaneWitness routing.now (lane_channel_of channel) (lane_channel_of next) w.lid w.source w.level) }
 {
-    match find_lane_witness(alloc, fabric, cells, lanes, levels, traffic, channel, next)? {
+    match find_lane_witness(alloc, routing, channel, next)? {
         Some(witness) => Ok(witness),
         None => unreachable!(),
     }
@@ -87,33 +76,25 @@ fn witness_of(
 // The channels of a credit loop, told by their places, each with the least route by which it depends on the next one.
 fn with_witnesses(
     alloc: Global,
-    fabric: &Fabric,
-    cells: &Cells,
-    lanes: &LaneRows,
-    levels: &Levels,
-    traffic: Traffic,
+    routing: &LaneRouting<'_>,
     most: usize,
     count: usize,
     places: &[u32],
 ) -> Result<Vec<LaneLoopChannel>, OutOfMemory>
-    requires same { switch_count fabric.now ≡ cells.now.switches }
-    requires lanes { switch_count fabric.now ≡ lanes.now.switches }
-    requires owners { length fabric.now.owners ≤ 64 * cells.now.blocks }
-    requires fabric { IsFabric fabric.now }
+    requires fabric { IsFabric routing.now.fabric.now }
     requires some { 0 < most }
     requires few { most < 255 }
     requires some_lanes { 0 < count }
     requires few_lanes { count ≤ 15 }
-    requires least { IsLeastLaneLoop fabric.now (tables_of cells.now) (lanes_of lanes.now) traffic (levels_of levels.now)
+    requires least { by_routing IsLeastLaneLoop routing.now
         (map (lane_spot_at most count) places.now) }
-    ensures { IfOk result (λ channels. LaneCycleIs fabric.now (tables_of cells.now) (lanes_of lanes.now) traffic
-        (levels_of levels.now) channels.items) }
+    ensures { IfOk result (λ channels. by_routing LaneCycleIs routing.now channels.items) }
 {
     let mut channels = Vec::with_capacity(alloc, places.len())?;
     'places: for at in 0..places.len() {
         let channel = lane_spot_of(most, count, places[at]);
         let next = lane_spot_of(most, count, places[(at + 1) % places.len()]);
-        let witness = witness_of(alloc, fabric, cells, lanes, levels, traffic, channel, next)?;
+        let witness = witness_of(alloc, routing, channel, next)?;
         channels.push(LaneLoopChannel { channel, witness })?;
     }
     Ok(channels)
@@ -122,29 +103,19 @@ fn with_witnesses(
 // The verdict on a graph of the dependencies.
 fn verdict_on(
     alloc: Global,
-    fabric: &Fabric,
-    cells: &Cells,
-    lanes: &LaneRows,
-    levels: &Levels,
-    traffic: Traffic,
+    routing: &LaneRouting<'_>,
     graph: &Graph,
 ) -> Result<LaneVerdict, OutOfMemory>
-    requires same { switch_count fabric.now ≡ cells.now.switches }
-    requires lanes { switch_count fabric.now ≡ lanes.now.switches }
-    requires owners { length fabric.now.owners ≤ 64 * cells.now.blocks }
-    requires graph { AreLaneDependencies fabric.now (tables_of cells.now) (lanes_of lanes.now) lanes.now.count traffic
-        (levels_of levels.now) graph.now }
-    ensures { IfOk result (λ verdict. IsLaneVerdict fabric.now (tables_of cells.now) (lanes_of lanes.now) traffic
-        (levels_of levels.now) lanes.now.count verdict) }
+    requires graph { AreLaneDependencies routing.now.fabric.now (tables_of routing.now.cells.now) (lanes_of routing.now.lanes.now) routing.now.lanes.now.count routing.now.traffic
+        (levels_of routing.now.levels.now) graph.now }
+    ensures { IfOk result (λ verdict. by_routing IsLaneVerdict routing.now routing.now.lanes.now.count verdict) }
 {
-    let most = fabric.most().max(1);
-    let count = lanes.count().max(1);
+    let most = routing.fabric.most().max(1);
+    let count = routing.lanes.count().max(1);
     match verdict_of(alloc, graph)? {
         GraphVerdict::Ranks { ranks } => Ok(LaneVerdict::Ranks { ranks }),
         GraphVerdict::Cycle { nodes } => {
-            let channels = with_witnesses(
-                alloc, fabric, cells, lanes, levels, traffic, most, count, &nodes,
-            )?;
+            let channels = with_witnesses(alloc, routing, most, count, &nodes)?;
             Ok(LaneVerdict::Cycle { channels })
         }
     }
@@ -154,24 +125,13 @@ fn verdict_on(
 /// lane. The ranks of the channels exactly if there is no credit loop, else the least one, with the least route that makes
 /// each of its dependencies; whether a route stops or is discarded; how many channels there are; and how many dependencies.
 /// If there is no credit loop and none stops, all arrive. The error is want of memory alone.
-pub fn judge(
-    alloc: Global,
-    fabric: &Fabric,
-    cells: &Cells,
-    lanes: &LaneRows,
-    levels: &Levels,
-    traffic: Traffic,
-) -> Result<LaneJudgement, OutOfMemory>
-    requires same { switch_count fabric.now ≡ cells.now.switches }
-    requires lanes { switch_count fabric.now ≡ lanes.now.switches }
-    requires owners { length fabric.now.owners ≤ 64 * cells.now.blocks }
-    ensures { IfOk result (IsLaneJudgement fabric.now (tables_of cells.now) (lanes_of lanes.now) traffic
-        (levels_of levels.now) lanes.now.count) }
+pub fn judge(alloc: Global, routing: &LaneRouting<'_>) -> Result<LaneJudgement, OutOfMemory>
+    ensures { IfOk result (by_routing IsLaneJudgement routing.now routing.now.lanes.now.count) }
 {
-    let channels = count_links(fabric).channels * lanes.count() as u64;
-    let found = find_lane_dependencies(alloc, fabric, cells, lanes, levels, traffic)?;
+    let channels = count_links(routing.fabric).channels * routing.lanes.count() as u64;
+    let found = find_lane_dependencies(alloc, routing)?;
     let dependencies = count_steps(&found.graph);
-    let verdict = verdict_on(alloc, fabric, cells, lanes, levels, traffic, &found.graph)?;
+    let verdict = verdict_on(alloc, routing, &found.graph)?;
     Ok(LaneJudgement {
         verdict,
         stops: found.stopped,

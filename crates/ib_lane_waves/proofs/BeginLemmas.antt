@@ -2,8 +2,8 @@
 use Rattle.std.proofs.Common.{◌≡◌, ◌∙◌, sym, ap, subst, refl, ℕ, ◌+◌, ◌*◌, ◌<◌, List, Bool, true, Option, Some, None, length, arith, inl, inr, ◌⊎◌, ◌↔◌}
 use Rattle.std.specs.Prelude.{MatchOption, slice_get, slice_index_or}
 use Rattle.std.proofs.lemmas.Option.{slice_get_within}
-use Rattle.ib_cells.specs.Cells.{TablesOf}
-use Rattle.ib_rows.specs.Lanes.{LanesOf}
+use Rattle.ib_cells.specs.Cells.{TablesOf, tables_of}
+use Rattle.ib_rows.specs.Lanes.{LanesOf, lanes_of}
 use Rattle.ib_rows.specs.PathLevels.{HasLevel, LevelsOf}
 use Rattle.ib_net.specs.declared.node.EndPort.{EndPort}
 use Rattle.ib_net.specs.declared.node.Spot.{Spot}
@@ -14,7 +14,8 @@ use Rattle.ib_routes.specs.Waves.{HasBit}
 use Rattle.ib_lane_routes.specs.declared.hop.LaneHop.{LaneHop}
 use Rattle.ib_lane_routes.specs.declared.hop.LaneHop.TheVariants.{On}
 use Rattle.ib_lane_routes.specs.LaneRoutes.{IsLaneStop, LaneSends, begin_of, lane_hop}
-use Rattle.ib_lane_waves.specs.LaneBlocks.{AreBegun, AreBegunBy, AreSent, IsFirstHop, IsOfGates, IsSentFrom}
+use Rattle.ib_lane_waves.specs.declared.block.BlockRoutes.{BlockRoutes}
+use Rattle.ib_lane_waves.specs.LaneBlocks.{AreBegun, AreBegunOf, AreSent, IsFirstHop, IsOfGates, IsSentFrom}
 use Rattle.ib_lane_waves.specs.LaneGates.{AreAlike, AreGates, IsGateOf, source_at}
 use Rattle.ib_lane_waves.specs.LaneSteps.{departure_place}
 use Rattle.ib_lane_waves.proofs.GateLemmas.{source_place}
@@ -28,9 +29,21 @@ gate_there_of : (fabric : FabricOf) (lanes : LanesOf) (traffic : Traffic) (spots
 gate_there_of fabric lanes traffic spots source None none is = absurd (none is)
 gate_there_of fabric lanes traffic spots source (Some gate) of is = (gate, refl, of)
 
-module _ (fabric : FabricOf) (tables : TablesOf) (lanes : LanesOf) (count block : ℕ) where
+module _ (routes : BlockRoutes) where
+  abbrev fabric : FabricOf
+  fabric = routes.routing.fabric.now
+
+  abbrev tables : TablesOf
+  tables = tables_of routes.routing.cells.now
+
+  abbrev lanes : LanesOf
+  lanes = lanes_of routes.routing.lanes.now
+
+  abbrev count : ℕ
+  count = routes.routing.lanes.now.count
+
   abbrev pub Begun : (Spot → ℕ → ℕ → Type 0) → List ℕ → List ℕ → Bool → Bool → Type 0
-  Begun = AreBegunBy fabric tables lanes count block
+  Begun = AreBegunOf routes
 
   pub begun_none : (Kind : Spot → ℕ → ℕ → Type 0) (words : List ℕ) (told : Bool) → ((spot : Spot) (level bit : ℕ) → Kind spot level bit → ⊥) → Begun Kind words words told told
   begun_none Kind words told none = record {
@@ -121,17 +134,17 @@ module _ (fabric : FabricOf) (tables : TablesOf) (lanes : LanesOf) (count block 
     abbrev First : Spot → ℕ → ℕ → Type 0
     First = IsFirstHop spot level bit
 
-    first_hop : (at : Spot) (with other : ℕ) → First at with other → lane_hop fabric tables lanes with (64 * block + other) at ≡ lane_hop fabric tables lanes level (64 * block + bit) spot
-    first_hop at with other is = ap (λ (l : ℕ). lane_hop fabric tables lanes l (64 * block + other) at) is.1 ∙ ap (λ (b : ℕ). lane_hop fabric tables lanes level (64 * block + b) at) is.2 ∙ ap (lane_hop fabric tables lanes level (64 * block + bit)) is.0
+    first_hop : (at : Spot) (with other : ℕ) → First at with other → lane_hop fabric tables lanes with (64 * routes.block + other) at ≡ lane_hop fabric tables lanes level (64 * routes.block + bit) spot
+    first_hop at with other is = ap (λ (l : ℕ). lane_hop fabric tables lanes l (64 * routes.block + other) at) is.1 ∙ ap (λ (b : ℕ). lane_hop fabric tables lanes level (64 * routes.block + b) at) is.2 ∙ ap (lane_hop fabric tables lanes level (64 * routes.block + bit)) is.0
 
-    module _ (does : LaneHop) (is : lane_hop fabric tables lanes level (64 * block + bit) spot ≡ does) (old : List ℕ) where
+    module _ (does : LaneHop) (is : lane_hop fabric tables lanes level (64 * routes.block + bit) spot ≡ does) (old : List ℕ) where
       -- it goes on
       pub begun_on : (port lane : ℕ) (next : Spot) → does ≡ On port lane next → (IsLaneStop does → ⊥) → (new : List ℕ) → ((place other : ℕ) → (HasBit new place other ↔ (HasBit old place other ⊎ ((place ≡ departure_place (switch_count fabric) count level spot.switch lane) × (other ≡ bit))))) → length new ≡ length old → (told : Bool) → Begun First old new told told
       begun_on port lane next on stops_not new more size told = record {
         seen = λ place other. (
           λ has. elim ((more place other).0 has) [
             | inl had ↦ inl had
-            | inr (there, put_in) ↦ inr (spot, level, port, lane, next, (refl, refl, put_in), ap (λ (b : ℕ). lane_hop fabric tables lanes level (64 * block + b) spot) put_in ∙ is ∙ on, there)
+            | inr (there, put_in) ↦ inr (spot, level, port, lane, next, (refl, refl, put_in), ap (λ (b : ℕ). lane_hop fabric tables lanes level (64 * routes.block + b) spot) put_in ∙ is ∙ on, there)
           ],
           λ either. elim either [
             | inl had ↦ (more place other).1 (inl had)
@@ -176,7 +189,7 @@ module _ (fabric : FabricOf) (tables : TablesOf) (lanes : LanesOf) (count block 
       }
 
   -- of all gates: just the routes of the traffic have begun
-  module _ (traffic : Traffic) (levels : LevelsOf) (spots : List Spot) (gates : List (Option ℕ)) (are : AreGates fabric lanes traffic spots gates) (top : ℕ) (sent : List ℕ) (sends : AreSent fabric traffic levels gates (length spots) block top sent) where
+  module _ (traffic : Traffic) (levels : LevelsOf) (spots : List Spot) (gates : List (Option ℕ)) (are : AreGates fabric lanes traffic spots gates) (top : ℕ) (sent : List ℕ) (sends : AreSent fabric traffic levels gates (length spots) routes.block top sent) where
     abbrev OfGates : Spot → ℕ → ℕ → Type 0
     OfGates = IsOfGates spots sent top
 
@@ -203,14 +216,14 @@ module _ (fabric : FabricOf) (tables : TablesOf) (lanes : LanesOf) (count block 
             record { place = place; low = within; is = is; sends = subst (λ (s : EndPort). LaneSends fabric traffic levels lid s level) (sym at) sends },
           )
 
-      pub all_begun : AreBegun fabric tables lanes count traffic levels block new had told
+      pub all_begun : AreBegun fabric tables lanes count traffic levels routes.block new had told
       all_begun = record {
         seen = λ place bit low. (
           λ has. elim ((begun.seen place bit).0 has) [
             | inl was ↦ absurd (none place bit was)
             | inr (spot, level, port, lane, next, (gate, stands, below, fits, in_sent), goes, there) ↦ (
                 let from = (sends gate level bit (slice_get_within spots gate spot stands) below low).0 in_sent in
-                let (source, start, sent_it, begins, alike) = gate_source gate (64 * block + bit) level spot stands from in
+                let (source, start, sent_it, begins, alike) = gate_source gate (64 * routes.block + bit) level spot stands from in
                 record {
                   source = source;
                   level = level;
@@ -220,13 +233,13 @@ module _ (fabric : FabricOf) (tables : TablesOf) (lanes : LanesOf) (count block 
                   port = port;
                   lane = lane;
                   next = next;
-                  goes = sym (alike_hop fabric tables lanes level (64 * block + bit) spot start alike) ∙ goes;
+                  goes = sym (alike_hop fabric tables lanes level (64 * routes.block + bit) spot start alike) ∙ goes;
                   is_at = there ∙ ap (λ (s : ℕ). departure_place (switch_count fabric) count level s lane) alike.0;
                 })
           ],
           λ b. (
-              let (gate, spot, stands, alike, from) = source_gate b.source (64 * block + bit) b.level b.start b.sends b.begins in
-              let below = top_is b.source (64 * block + bit) b.level b.sends.has in
+              let (gate, spot, stands, alike, from) = source_gate b.source (64 * routes.block + bit) b.level b.start b.sends b.begins in
+              let below = top_is b.source (64 * routes.block + bit) b.level b.sends.has in
               (begun.seen place bit).1 (inr (
                 spot,
                 b.level,
@@ -234,7 +247,7 @@ module _ (fabric : FabricOf) (tables : TablesOf) (lanes : LanesOf) (count block 
                 b.lane,
                 b.next,
                 (gate, stands, below, low, (sends gate b.level bit (slice_get_within spots gate spot stands) below low).1 from),
-                alike_hop fabric tables lanes b.level (64 * block + bit) spot b.start alike ∙ b.goes,
+                alike_hop fabric tables lanes b.level (64 * routes.block + bit) spot b.start alike ∙ b.goes,
                 b.is_at ∙ ap (λ (s : ℕ). departure_place (switch_count fabric) count b.level s b.lane) (sym alike.0),
               ))),
         );
@@ -243,7 +256,7 @@ module _ (fabric : FabricOf) (tables : TablesOf) (lanes : LanesOf) (count block 
             | inl it ↦ inl it
             | inr (spot, level, bit, (gate, stands, below, low, in_sent), stops) ↦ (
                 let from = (sends gate level bit (slice_get_within spots gate spot stands) below low).0 in_sent in
-                let (source, start, sent_it, begins, alike) = gate_source gate (64 * block + bit) level spot stands from in
+                let (source, start, sent_it, begins, alike) = gate_source gate (64 * routes.block + bit) level spot stands from in
                 inr (
                   bit,
                   low,
@@ -253,21 +266,21 @@ module _ (fabric : FabricOf) (tables : TablesOf) (lanes : LanesOf) (count block 
                     sends = sent_it;
                     start = start;
                     begins = begins;
-                    stops = subst IsLaneStop (alike_hop fabric tables lanes level (64 * block + bit) spot start alike) stops;
+                    stops = subst IsLaneStop (alike_hop fabric tables lanes level (64 * routes.block + bit) spot start alike) stops;
                   },
                 ))
           ],
           λ either. elim either [
             | inl it ↦ begun.stopped.1 (inl it)
             | inr (bit, low, b) ↦ (
-                let (gate, spot, stands, alike, from) = source_gate b.source (64 * block + bit) b.level b.start b.sends b.begins in
-                let below = top_is b.source (64 * block + bit) b.level b.sends.has in
+                let (gate, spot, stands, alike, from) = source_gate b.source (64 * routes.block + bit) b.level b.start b.sends b.begins in
+                let below = top_is b.source (64 * routes.block + bit) b.level b.sends.has in
                 begun.stopped.1 (inr (
                   spot,
                   b.level,
                   bit,
                   (gate, stands, below, low, (sends gate b.level bit (slice_get_within spots gate spot stands) below low).1 from),
-                  subst IsLaneStop (sym (alike_hop fabric tables lanes b.level (64 * block + bit) spot b.start alike)) b.stops,
+                  subst IsLaneStop (sym (alike_hop fabric tables lanes b.level (64 * routes.block + bit) spot b.start alike)) b.stops,
                 )))
           ],
         );

@@ -12,7 +12,7 @@ use Rattle.ib_lane_routes.specs.declared.hop.LaneHop.TheVariants.{On}
 use Rattle.ib_lane_routes.specs.LaneFound.{lane_number}
 use Rattle.ib_lane_routes.specs.LaneRoutes.{IsLaneStop, LaneChannel, LaneComesTo, LaneSends, LaneWalksBy, begin_of, lane_hop}
 use Rattle.ib_lane_waves.specs.LaneBlocks.{AreBegun, BeginsAt, IsLaneWaved, SomeIsLaneStoppedTo, StopsAtFirst, TakesLaneNumbers}
-use Rattle.ib_lane_waves.specs.LaneSteps.{LaneStep, LaneStops, Leaves, StepsOf, StopsOf, departure_place}
+use Rattle.ib_lane_waves.specs.LaneSteps.{LaneStep, LaneStops, Leaves, departure_place}
 use Rattle.ib_lane_waves.specs.Waves.{IsReached, IsSpread, Spreads}
 use Rattle.ib_lane_waves.proofs.OnLemmas.{on_leaves}
 use Rattle.ib_lane_waves.proofs.StepLemmas.{one_leaves}
@@ -111,10 +111,10 @@ module _ (fabric : FabricOf) (fits : IsFabric fabric) (tables : TablesOf) (lanes
 
   module _ (block : ℕ) (old new : StateOf) (begun : Bool) (starts : AreBegun fabric tables lanes count traffic levels block old.seen begun old.stopped) where
     abbrev Step : ℕ → ℕ → ℕ → ℕ → ℕ → Type 0
-    Step = StepsOf fabric tables lanes count block
+    Step bit = LaneStep fabric tables lanes count (64 * block + bit)
 
     abbrev Stops : ℕ → ℕ → Type 0
-    Stops = StopsOf fabric tables lanes count block
+    Stops bit = LaneStops fabric tables lanes count (64 * block + bit)
 
     -- what is reached departs
     spread_departs : (bit steps start at : ℕ) → bit < 64 → HasBit old.seen start bit → Spreads Step bit steps start at → Departs (64 * block + bit) at

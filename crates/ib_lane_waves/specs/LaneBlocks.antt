@@ -1,11 +1,12 @@
 -- Where the routes to the LIDs of a block begin, and what is found of them.
-use Rattle.std.specs.Prelude.{◌≡◌, ◌<◌, ◌⊎◌, ◌↔◌, ◌+◌, ◌*◌, ℕ, Bool, true, List, Option, Some, None}
+use Rattle.std.specs.Prelude.{◌≡◌, ◌<◌, ◌≤◌, ◌⊎◌, ◌↔◌, ◌+◌, ◌*◌, ℕ, Bool, true, List, Option, Some, None}
 use Rattle.std.specs.Prelude.{length, slice_get, slice_index_or}
 use Rattle.std.specs.Int.{bit_at}
 use Rattle.channel_graph.specs.Graph.{GraphOf, LeadsTo}
-use Rattle.ib_cells.specs.Cells.{TablesOf}
-use Rattle.ib_rows.specs.Lanes.{LanesOf}
-use Rattle.ib_rows.specs.PathLevels.{LevelsOf}
+use Rattle.ib_cells.specs.Cells.{TablesOf, tables_of}
+use Rattle.ib_rows.specs.Lanes.{LanesOf, lanes_of}
+use Rattle.ib_rows.specs.Levels.{levels_of}
+use Rattle.ib_rows.specs.PathLevels.{AreLevelsBelow, LevelsOf}
 use Rattle.ib_net.specs.declared.node.EndPort.{EndPort}
 use Rattle.ib_net.specs.declared.node.Spot.{Spot}
 use Rattle.ib_net.specs.Fabric.{FabricOf, owner_of, switch_count}
@@ -15,8 +16,12 @@ use Rattle.ib_lane_routes.specs.declared.hop.LaneHop.TheVariants.{On}
 use Rattle.ib_lane_routes.specs.LaneFound.{IsLaneChannel, lane_number}
 use Rattle.ib_lane_routes.specs.LaneRoutes.{IsLaneStop, IsLaneStopped, LaneChannel, LaneDependsOn, LaneSends, LaneTakes}
 use Rattle.ib_lane_routes.specs.LaneRoutes.{begin_of, lane_hop}
+use Rattle.ib_lane_routes.specs.declared.routing.LaneRouting.{LaneRouting}
+use Rattle.ib_lane_waves.specs.declared.block.BlockRoutes.{BlockRoutes}
+use Rattle.ib_lane_waves.specs.declared.gate.Gates.{Gates}
+use Rattle.ib_lane_waves.specs.declared.room.Rooms.{Rooms}
 use Rattle.ib_lane_waves.specs.LaneGates.{source_at, source_count}
-use Rattle.ib_lane_waves.specs.LaneSteps.{departure_place}
+use Rattle.ib_lane_waves.specs.LaneSteps.{departure_place, place_count}
 
 -- the LIDs of a block that each end port owns
 abbrev pub AreOwned : FabricOf → ℕ → List ℕ → Type 0
@@ -63,6 +68,11 @@ pub record AreBegunBy (fabric : FabricOf) (tables : TablesOf) (lanes : LanesOf) 
   pub stopped :
       (told ≡ true) ↔ ((had ≡ true) ⊎ ((spot : Spot) × (level bit : ℕ) × Kind spot level bit × IsLaneStop (lane_hop fabric tables lanes level (64 * block + bit) spot)))
   pub size : length new ≡ length old
+
+-- .. to the LIDs of a block
+abbrev pub AreBegunOf : BlockRoutes → (Spot → ℕ → ℕ → Type 0) → List ℕ → List ℕ → Bool → Bool → Type 0
+AreBegunOf routes = AreBegunBy routes.routing.fabric.now (tables_of routes.routing.cells.now)
+    (lanes_of routes.routing.lanes.now) routes.routing.lanes.now.count routes.block
 
 module _ (fabric : FabricOf) (tables : TablesOf) (lanes : LanesOf) (count : ℕ) (traffic : Traffic) (levels : LevelsOf) where
   -- the route of an end port to a LID with a level begins, and leaves its first switch at this place
@@ -137,6 +147,25 @@ module _ (fabric : FabricOf) (tables : TablesOf) (lanes : LanesOf) (count : ℕ)
         → (channel next : LaneChannel) × IsLaneChannel fabric count channel × IsLaneChannel fabric count next
         × (one ≡ lane_number fabric count channel) × (other ≡ lane_number fabric count next)
 
+-- the same of a block, and of the LIDs below a number, by a routing
+abbrev pub IsWavedOf : BlockRoutes → GraphOf → GraphOf → Bool → Bool → Type 0
+IsWavedOf routes = IsLaneWaved routes.routing.fabric.now (tables_of routes.routing.cells.now)
+    (lanes_of routes.routing.lanes.now) routes.routing.lanes.now.count routes.routing.traffic
+    (levels_of routes.routing.levels.now) routes.block
+
+abbrev pub AreFoundBelow : LaneRouting → ℕ → GraphOf → GraphOf → Bool → Type 0
+AreFoundBelow routing = AreLaneFoundBelow routing.fabric.now (tables_of routing.cells.now)
+    (lanes_of routing.lanes.now) routing.lanes.now.count routing.traffic (levels_of routing.levels.now)
+
+-- rooms for the end ports, the gates, the levels and the departures of a routing
+pub record AreRooms (routing : LaneRouting) (gates : Gates) (rooms : Rooms) : Type 0 where
+  pub few : rooms.top ≤ 16
+  pub top : AreLevelsBelow (levels_of routing.levels.now) rooms.top
+  pub owned : length rooms.owned.items ≡ source_count routing.fabric.now
+  pub sent : length rooms.sent.items ≡ length gates.spots.items * rooms.top
+  pub seen : length rooms.seen.items ≡ place_count routing rooms.top
+  pub done : length rooms.done.items ≡ length rooms.seen.items
+
 -- words with more bits
 abbrev pub AreSetBy : (old new : List ℕ) → (Kind : ℕ → ℕ → Type 0) → Type 0
 AreSetBy old new Kind =
@@ -146,11 +175,11 @@ AreSetBy old new Kind =
 abbrev pub IsFirstHop : Spot → ℕ → ℕ → Spot → ℕ → ℕ → Type 0
 IsFirstHop spot level bit at with other = (at ≡ spot) × (with ≡ level) × (other ≡ bit)
 
--- those of a gate, by the words from a place on, one for each level below a number
-abbrev pub IsOfRow : Spot → List ℕ → (row top : ℕ) → Spot → ℕ → ℕ → Type 0
-IsOfRow spot sent row top at level bit = (at ≡ spot) × (level < top) × (bit < 64) × HasBit sent (row + level) bit
+-- those of a gate, by its words, one for each level
+abbrev pub IsOfGate : Spot → List ℕ → Spot → ℕ → ℕ → Type 0
+IsOfGate spot words at level bit = (at ≡ spot) × (level < length words) × (bit < 64) × HasBit words level bit
 
--- .. and of all gates
+-- .. and of all gates, each with so many
 abbrev pub IsOfGates : List Spot → List ℕ → (top : ℕ) → Spot → ℕ → ℕ → Type 0
 IsOfGates spots sent top at level bit =
     (gate : ℕ) × (slice_get spots gate ≡ Some at) × (level < top) × (bit < 64) × HasBit sent (gate * top + level) bit

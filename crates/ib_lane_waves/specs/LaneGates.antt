@@ -5,10 +5,12 @@ use Rattle.ib_net.specs.declared.node.EndPort.{EndPort}
 use Rattle.ib_net.specs.declared.node.EndPort.TheVariants.{Host, Switch}
 use Rattle.ib_net.specs.declared.node.Spot.{Spot}
 use Rattle.ib_net.specs.Fabric.{FabricOf, switch_count}
-use Rattle.ib_rows.specs.Lanes.{LanesOf}
+use Rattle.ib_rows.specs.Lanes.{LanesOf, lanes_of}
 use Rattle.ib_routes.specs.declared.traffic.Traffic.{Traffic}
 use Rattle.ib_routes.specs.Routes.{IsSource}
 use Rattle.ib_lane_routes.specs.LaneRoutes.{begin_of}
+use Rattle.ib_lane_routes.specs.declared.routing.LaneRouting.{LaneRouting}
+use Rattle.ib_lane_waves.specs.declared.gate.Gates.{Gates}
 
 -- the end port of a place: those of adapters and routers first, then switches; and how many there are
 abbrev pub source_at : FabricOf → ℕ → EndPort
@@ -63,6 +65,11 @@ pub record AreGates (fabric : FabricOf) (lanes : LanesOf) (traffic : Traffic) (s
     : Type 0 where
   pub size : length gates ≡ source_count fabric
   pub all : AreGatesBelow fabric lanes traffic (source_count fabric) spots gates
+
+-- .. of a routing
+abbrev pub AreGatesOn : LaneRouting → Gates → Type 0
+AreGatesOn routing gates =
+    AreGates routing.fabric.now (lanes_of routing.lanes.now) routing.traffic gates.spots.items gates.gates.items
 
 -- the last gate of each switch, if it has one: one of its ports
 abbrev pub AreLastGates : List Spot → List (Option ℕ) → Type 0

@@ -5,12 +5,15 @@ use Rattle.channel_graph.specs.Graph.{GraphOf, LeadsTo}
 use Rattle.ib_net.specs.declared.node.Side.TheVariants.{Bare, To}
 use Rattle.ib_net.specs.declared.node.Spot.{Spot}
 use Rattle.ib_net.specs.Fabric.{FabricOf, side_of, switch_count}
-use Rattle.ib_cells.specs.Cells.{TablesOf}
-use Rattle.ib_rows.specs.Lanes.{LanesOf}
+use Rattle.ib_cells.specs.Cells.{TablesOf, tables_of}
+use Rattle.ib_rows.specs.Lanes.{LanesOf, lanes_of}
 use Rattle.ib_routes.specs.Finding.{base_of}
 use Rattle.ib_lane_routes.specs.declared.hop.LaneHop.TheVariants.{On}
 use Rattle.ib_lane_routes.specs.LaneFound.{lane_number}
 use Rattle.ib_lane_routes.specs.LaneRoutes.{IsLaneStop, LaneChannel, lane_hop}
+use Rattle.ib_lane_routes.specs.declared.routing.LaneRouting.{LaneRouting}
+use Rattle.ib_lane_waves.specs.declared.block.BlockRoutes.{BlockRoutes}
+use Rattle.ib_lane_waves.specs.declared.departure.Departure.{Departure}
 
 -- the place of what goes out of a switch on a lane with a level: by level, then by switch, then by lane
 abbrev pub departure_place : (switches count level switch lane : ℕ) → ℕ
@@ -20,6 +23,17 @@ departure_place switches count level switch lane = (level * switches + switch) *
 abbrev pub ArePlaces : (switches count places : ℕ) → Type 0
 ArePlaces switches count places = (levels : ℕ) × (levels ≤ 16) × (places ≡ levels * switches * count)
 
+-- of a routing, how many places so many levels have, the place of a departure, and words for places
+abbrev pub place_count : LaneRouting → (levels : ℕ) → ℕ
+place_count routing levels = levels * switch_count routing.fabric.now * routing.lanes.now.count
+
+abbrev pub place_on : LaneRouting → Departure → ℕ
+place_on routing from =
+    departure_place (switch_count routing.fabric.now) routing.lanes.now.count from.level from.switch from.lane
+
+abbrev pub AreWordsOn : LaneRouting → List ℕ → Type 0
+AreWordsOn routing words = ArePlaces (switch_count routing.fabric.now) routing.lanes.now.count (length words)
+
 -- the rows are for the channels of the fabric on so many lanes: the row of each begins with lane 0 of port 1 of the switch
 -- to which it leads
 pub record IsLaneGraphOf (fabric : FabricOf) (count : ℕ) (graph : GraphOf) : Type 0 where
@@ -28,6 +42,10 @@ pub record IsLaneGraphOf (fabric : FabricOf) (count : ℕ) (graph : GraphOf) : T
   pub bases :
       (switch port next entry lane : ℕ) → side_of fabric switch port ≡ To next entry → lane < count
       → slice_index graph.bases ((switch * fabric.most + (port - 1)) * count + lane) ≡ next * (fabric.most * count)
+
+-- .. on the lanes of a routing
+abbrev pub IsGraphOn : LaneRouting → GraphOf → Type 0
+IsGraphOn routing graph = IsLaneGraphOf routing.fabric.now routing.lanes.now.count graph
 
 -- the first so many bases: of a channel, lane 0 of port 1 of the switch to which its port leads
 pub record AreLaneBases (fabric : FabricOf) (count end : ℕ) (bases : List ℕ) : Type 0 where
@@ -69,11 +87,13 @@ module _ (fabric : FabricOf) (tables : TablesOf) (lanes : LanesOf) (count lid : 
     pub stops : IsLaneStop (lane_hop fabric tables lanes level lid next)
 
 -- the same of the bits of a block
-abbrev pub StepsOf : FabricOf → TablesOf → LanesOf → ℕ → ℕ → ℕ → ℕ → ℕ → ℕ → ℕ → Type 0
-StepsOf fabric tables lanes count block bit = LaneStep fabric tables lanes count (64 * block + bit)
+abbrev pub StepsOf : BlockRoutes → ℕ → ℕ → ℕ → ℕ → ℕ → Type 0
+StepsOf routes bit = LaneStep routes.routing.fabric.now (tables_of routes.routing.cells.now)
+    (lanes_of routes.routing.lanes.now) routes.routing.lanes.now.count (64 * routes.block + bit)
 
-abbrev pub StopsOf : FabricOf → TablesOf → LanesOf → ℕ → ℕ → ℕ → ℕ → Type 0
-StopsOf fabric tables lanes count block bit = LaneStops fabric tables lanes count (64 * block + bit)
+abbrev pub StopsOf : BlockRoutes → ℕ → ℕ → Type 0
+StopsOf routes bit = LaneStops routes.routing.fabric.now (tables_of routes.routing.cells.now)
+    (lanes_of routes.routing.lanes.now) routes.routing.lanes.now.count (64 * routes.block + bit)
 
 -- a graph has one step more, or has it again
 abbrev pub AddsOne : GraphOf → GraphOf → ℕ → ℕ → Type 0

@@ -1,111 +1,81 @@
 //! The dependencies of all routes.
 
-ghost use Rattle.std.specs.Prelude.{◌≡◌, ◌<◌, ◌≤◌, ◌*◌, ◌^◌, ◌↔◌, ℕ, length, IfOk, IsTrue};
+ghost use Rattle.std.specs.Prelude.{◌≤◌, ◌*◌, ◌↔◌, ℕ, IfOk, IsTrue};
 ghost use Rattle.channel_graph.specs.Graph.{LeadsTo};
 ghost use Rattle.ib_net.specs.Fabric.{IsFabric, switch_count};
 ghost use Rattle.ib_cells.specs.Cells.{tables_of};
 ghost use Rattle.ib_rows.specs.Lanes.{IsLaneCount, lanes_of};
 ghost use Rattle.ib_rows.specs.Levels.{levels_of};
-ghost use Rattle.ib_rows.specs.PathLevels.{AreLevelsBelow};
 ghost use Rattle.ib_lane_routes.specs.LaneFound.{SomeIsLaneStopped};
-ghost use Rattle.ib_lane_waves.specs.LaneBlocks.{AreLaneDependencies, AreLaneFoundBelow, IsLaneWaved};
-ghost use Rattle.ib_lane_waves.specs.LaneGates.{AreGates, source_count};
-ghost use Rattle.ib_lane_waves.specs.LaneSteps.{AreLaneBases, IsLaneGraphOf};
+ghost use Rattle.ib_lane_routes.specs.Routing.{by_routing};
+ghost use Rattle.ib_lane_waves.specs.LaneBlocks.{AreFoundBelow, AreLaneDependencies, AreRooms, IsWavedOf};
+ghost use Rattle.ib_lane_waves.specs.LaneGates.{AreGatesOn};
+ghost use Rattle.ib_lane_waves.specs.LaneSteps.{AreLaneBases, IsGraphOn, IsLaneGraphOf};
 
+use crate::block::BlockRoutes;
 use crate::gate::{Gates, find_gates, sources};
 use crate::mark::clear;
+use crate::room::Rooms;
 use crate::start::{begin_all, put_owned, put_sent};
 use crate::wave::run;
 use an_base::memory::OutOfMemory;
 use channel_graph::graph::Graph;
-use ib_cells::cells::Cells;
+use ib_lane_routes::routing::LaneRouting;
 use ib_net::fabric::Fabric;
 use ib_routes::find::find_base;
-use ib_routes::traffic::Traffic;
-use ib_rows::lanes::LaneRows;
-use ib_rows::levels::Levels;
 use std::alloc::Global;
 
 // Adds to a graph each dependency that a route to a LID of a block makes, and no other. Answers whether such a route stops,
-// or one has before. The words are a room for bits: of each end port; of each gate and level; twice of each departure.
+// or one has before.
 fn add_block(
-    fabric: &Fabric,
-    cells: &Cells,
-    lanes: &LaneRows,
-    levels: &Levels,
-    top: usize,
-    traffic: Traffic,
-    block: usize,
+    routes: &BlockRoutes<'_>,
     gates: &Gates,
-    owned: &mut [u64],
-    sent: &mut [u64],
-    seen: &mut [u64],
-    done: &mut [u64],
+    rooms: &mut Rooms,
     graph: &mut Graph,
     stopped: bool,
 ) -> bool
-    requires same { switch_count fabric.now ≡ cells.now.switches }
-    requires lanes { switch_count fabric.now ≡ lanes.now.switches }
-    requires block { block < cells.now.blocks }
-    requires few { block < 1024 }
-    requires fabric { IsFabric fabric.now }
-    requires count { IsLaneCount (lanes_of lanes.now) lanes.now.count }
-    requires gates { AreGates fabric.now (lanes_of lanes.now) traffic gates.now.spots.items gates.now.gates.items }
-    requires low { top ≤ 16 }
-    requires top { AreLevelsBelow (levels_of levels.now) top }
-    requires owned { length owned.old ≡ source_count fabric.now }
-    requires sent { length sent.old ≡ length gates.now.spots.items * top }
-    requires seen { length seen.old ≡ top * switch_count fabric.now * lanes.now.count }
-    requires done { length done.old ≡ length seen.old }
-    requires graph { IsLaneGraphOf fabric.now lanes.now.count graph.old }
-    ensures { IsLaneWaved fabric.now (tables_of cells.now) (lanes_of lanes.now) lanes.now.count traffic
-        (levels_of levels.now) block graph.old graph.new stopped result }
+    requires fabric { IsFabric routes.now.routing.fabric.now }
+    requires count { IsLaneCount (lanes_of routes.now.routing.lanes.now) routes.now.routing.lanes.now.count }
+    requires gates { AreGatesOn routes.now.routing gates.now }
+    requires rooms { AreRooms routes.now.routing gates.now rooms.old }
+    requires graph { IsGraphOn routes.now.routing graph.old }
+    ensures rooms { AreRooms routes.now.routing gates.now rooms.new }
+    ensures waved { IsWavedOf routes.now graph.old graph.new stopped result }
 {
-    put_owned(fabric, block, owned);
-    put_sent(fabric, levels, top, traffic, block, gates, owned, sent);
+    let top = rooms.top;
+    let owned = rooms.owned.as_mut_slice();
+    let sent = rooms.sent.as_mut_slice();
+    let seen = rooms.seen.as_mut_slice();
+    let done = rooms.done.as_mut_slice();
+    put_owned(routes.routing.fabric, routes.block, owned);
+    put_sent(routes, gates, top, owned, sent);
     clear(seen);
     clear(done);
-    let spots = &gates.spots;
-    let stops = begin_all(fabric, cells, lanes, block, spots, sent, top, seen, stopped);
-    run(fabric, cells, lanes, block, seen, done, graph, stops)
+    let stops = begin_all(routes, &gates.spots, top, sent, seen, stopped);
+    run(routes, seen, done, graph, stops)
 }
 
 // The same of all blocks.
 fn add_blocks(
-    fabric: &Fabric,
-    cells: &Cells,
-    lanes: &LaneRows,
-    levels: &Levels,
-    top: usize,
-    traffic: Traffic,
+    routing: &LaneRouting<'_>,
     gates: &Gates,
-    owned: &mut [u64],
-    sent: &mut [u64],
-    seen: &mut [u64],
-    done: &mut [u64],
+    rooms: &mut Rooms,
     graph: &mut Graph,
 ) -> bool
-    requires same { switch_count fabric.now ≡ cells.now.switches }
-    requires lanes { switch_count fabric.now ≡ lanes.now.switches }
-    requires fabric { IsFabric fabric.now }
-    requires count { IsLaneCount (lanes_of lanes.now) lanes.now.count }
-    requires gates { AreGates fabric.now (lanes_of lanes.now) traffic gates.now.spots.items gates.now.gates.items }
-    requires low { top ≤ 16 }
-    requires top { AreLevelsBelow (levels_of levels.now) top }
-    requires owned { length owned.old ≡ source_count fabric.now }
-    requires sent { length sent.old ≡ length gates.now.spots.items * top }
-    requires seen { length seen.old ≡ top * switch_count fabric.now * lanes.now.count }
-    requires done { length done.old ≡ length seen.old }
-    requires graph { IsLaneGraphOf fabric.now lanes.now.count graph.old }
-    ensures { AreLaneFoundBelow fabric.now (tables_of cells.now) (lanes_of lanes.now) lanes.now.count traffic
-        (levels_of levels.now) (64 * cells.now.blocks) graph.old graph.new result }
+    requires fabric { IsFabric routing.now.fabric.now }
+    requires count { IsLaneCount (lanes_of routing.now.lanes.now) routing.now.lanes.now.count }
+    requires gates { AreGatesOn routing.now gates.now }
+    requires rooms { AreRooms routing.now gates.now rooms.old }
+    requires graph { IsGraphOn routing.now graph.old }
+    ensures { AreFoundBelow routing.now (64 * routing.now.cells.now.blocks) graph.old graph.new result }
 {
     let mut stopped = false;
-    'adding: for block in 0..cells.blocks() {
-        stopped = add_block(
-            fabric, cells, lanes, levels, top, traffic, block, gates, owned, sent, seen, done,
-            graph, stopped,
-        );
+    'adding: for block in 0..routing.cells.blocks() {
+        let routes = BlockRoutes {
+            routing: *routing,
+            block,
+        };
+        stopped = add_block(&routes, gates, rooms, graph, stopped);
     }
     stopped
 }
@@ -113,31 +83,28 @@ fn add_blocks(
 // The same in rooms of its own.
 fn add_dependencies(
     alloc: Global,
-    fabric: &Fabric,
-    cells: &Cells,
-    lanes: &LaneRows,
-    levels: &Levels,
-    traffic: Traffic,
+    routing: &LaneRouting<'_>,
     gates: &Gates,
     graph: &mut Graph,
 ) -> Result<bool, OutOfMemory>
-    requires same { switch_count fabric.now ≡ cells.now.switches }
-    requires lanes { switch_count fabric.now ≡ lanes.now.switches }
-    requires gates { AreGates fabric.now (lanes_of lanes.now) traffic gates.now.spots.items gates.now.gates.items }
-    requires graph { IsLaneGraphOf fabric.now lanes.now.count graph.old }
-    ensures { IfOk result (AreLaneFoundBelow fabric.now (tables_of cells.now) (lanes_of lanes.now) lanes.now.count traffic
-        (levels_of levels.now) (64 * cells.now.blocks) graph.old graph.new) }
+    requires gates { AreGatesOn routing.now gates.now }
+    requires graph { IsGraphOn routing.now graph.old }
+    ensures { IfOk result (AreFoundBelow routing.now (64 * routing.now.cells.now.blocks) graph.old graph.new) }
 {
-    let top = levels.count();
-    let places = top * fabric.switches() * lanes.count();
-    let mut owned = vec![in alloc; 0u64; sources(fabric)]?;
-    let mut sent = vec![in alloc; 0u64; gates.spots.len() * top]?;
-    let mut seen = vec![in alloc; 0u64; places]?;
-    let mut done = vec![in alloc; 0u64; places]?;
-    Ok(add_blocks(
-        fabric, cells, lanes, levels, top, traffic, gates, &mut owned, &mut sent, &mut seen,
-        &mut done, graph,
-    ))
+    let top = routing.levels.count();
+    let places = top * routing.fabric.switches() * routing.lanes.count();
+    let owned = vec![in alloc; 0u64; sources(routing.fabric)]?;
+    let sent = vec![in alloc; 0u64; gates.spots.len() * top]?;
+    let seen = vec![in alloc; 0u64; places]?;
+    let done = vec![in alloc; 0u64; places]?;
+    let mut rooms = Rooms {
+        top,
+        owned,
+        sent,
+        seen,
+        done,
+    };
+    Ok(add_blocks(routing, gates, &mut rooms, graph))
 }
 
 // The first channel of the switch to which each channel leads, by their numbers.
@@ -181,25 +148,16 @@ pub struct LaneFound {
 /// each two channels whether the one depends on the other, and whether a route stops or is discarded.
 pub fn find_lane_dependencies(
     alloc: Global,
-    fabric: &Fabric,
-    cells: &Cells,
-    lanes: &LaneRows,
-    levels: &Levels,
-    traffic: Traffic,
+    routing: &LaneRouting<'_>,
 ) -> Result<LaneFound, OutOfMemory>
-    requires same { switch_count fabric.now ≡ cells.now.switches }
-    requires lanes { switch_count fabric.now ≡ lanes.now.switches }
-    requires owners { length fabric.now.owners ≤ 64 * cells.now.blocks }
-    ensures graph { IfOk result (λ found. AreLaneDependencies fabric.now (tables_of cells.now) (lanes_of lanes.now)
-        lanes.now.count traffic (levels_of levels.now) found.graph) }
-    ensures stopped { IfOk result (λ found. IsTrue found.stopped ↔ SomeIsLaneStopped fabric.now (tables_of cells.now)
-        (lanes_of lanes.now) traffic (levels_of levels.now)) }
+    ensures graph { IfOk result (λ found. AreLaneDependencies routing.now.fabric.now
+        (tables_of routing.now.cells.now) (lanes_of routing.now.lanes.now) routing.now.lanes.now.count
+        routing.now.traffic (levels_of routing.now.levels.now) found.graph) }
+    ensures stopped { IfOk result (λ found. IsTrue found.stopped ↔ by_routing SomeIsLaneStopped routing.now) }
 {
-    let count = lanes.count();
-    let mut graph = no_dependencies(alloc, fabric, count)?;
-    let gates = find_gates(alloc, fabric, lanes, traffic)?;
-    let stopped = add_dependencies(
-        alloc, fabric, cells, lanes, levels, traffic, &gates, &mut graph,
-    )?;
+    let count = routing.lanes.count();
+    let mut graph = no_dependencies(alloc, routing.fabric, count)?;
+    let gates = find_gates(alloc, routing)?;
+    let stopped = add_dependencies(alloc, routing, &gates, &mut graph)?;
     Ok(LaneFound { graph, stopped })
 }

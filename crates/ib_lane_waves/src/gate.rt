@@ -1,18 +1,17 @@
 //! Where routes begin: at the gates of switches.
 
 ghost use Rattle.std.specs.Prelude.{◌≡◌, ◌<◌, ◌^◌, length, IfOk, IfSome, IsTrue, MatchOption};
-ghost use Rattle.ib_net.specs.Fabric.{switch_count};
 ghost use Rattle.ib_rows.specs.Lanes.{lanes_of};
 ghost use Rattle.ib_routes.specs.Routes.{IsSource};
-ghost use Rattle.ib_lane_waves.specs.LaneGates.{AreAlike, AreGates, AreGatesBelow, AreLastGates, AreMoreSpots, IsGateFor, IsGateOf};
+ghost use Rattle.ib_lane_waves.specs.LaneGates.{AreAlike, AreGatesBelow, AreGatesOn, AreLastGates, AreMoreSpots, IsGateFor, IsGateOf};
 ghost use Rattle.ib_lane_waves.specs.LaneGates.{place_in, source_at, source_count};
 
 use an_base::memory::OutOfMemory;
+use ib_lane_routes::routing::LaneRouting;
 use ib_lane_routes::start::begin_at;
 use ib_net::fabric::Fabric;
 use ib_net::node::{EndPort, Spot};
 use ib_routes::start::is_source;
-use ib_routes::traffic::Traffic;
 use ib_rows::lanes::LaneRows;
 use std::alloc::Global;
 
@@ -118,70 +117,59 @@ fn gate_for(
 
 // The gate of an end port, if it sends.
 fn gate_of(
-    fabric: &Fabric,
-    lanes: &LaneRows,
-    traffic: Traffic,
+    routing: &LaneRouting<'_>,
     source: EndPort,
     spots: &mut Vec<Spot>,
     last: &mut [Option<u32>],
 ) -> Result<Option<u32>, OutOfMemory>
-    requires lanes { switch_count fabric.now ≡ lanes.now.switches }
-    requires size { length last.old ≡ lanes.now.switches }
+    requires size { length last.old ≡ routing.now.lanes.now.switches }
     requires few { length spots.old.items < 2 ^ 17 }
     requires last { AreLastGates spots.old.items last.old }
-    ensures gate { IfOk result (λ gate. MatchOption gate (IsSource fabric.now traffic source → ⊥)
-        (IsGateOf fabric.now (lanes_of lanes.now) traffic spots.new.items source)) }
-    ensures more { IfOk result (λ _. AreMoreSpots lanes.now.switches spots.old.items spots.new.items) }
+    ensures gate { IfOk result (λ gate. MatchOption gate
+        (IsSource routing.now.fabric.now routing.now.traffic source → ⊥)
+        (IsGateOf routing.now.fabric.now (lanes_of routing.now.lanes.now) routing.now.traffic spots.new.items source)) }
+    ensures more { IfOk result (λ _. AreMoreSpots routing.now.lanes.now.switches spots.old.items spots.new.items) }
     ensures last { IfOk result (λ _. AreLastGates spots.new.items last.new) }
 {
-    if !is_source(fabric, traffic, source) {
+    if !is_source(routing.fabric, routing.traffic, source) {
         return Ok(None);
     }
-    let Some(spot) = begin_at(fabric, source) else {
+    let Some(spot) = begin_at(routing.fabric, source) else {
         return Ok(None);
     };
-    let gate = gate_for(lanes, spots, last, spot)?;
+    let gate = gate_for(routing.lanes, spots, last, spot)?;
     Ok(Some(gate))
 }
 
 // Puts the gates of all end ports.
 fn put_gates(
-    fabric: &Fabric,
-    lanes: &LaneRows,
-    traffic: Traffic,
+    routing: &LaneRouting<'_>,
     spots: &mut Vec<Spot>,
     last: &mut [Option<u32>],
     gates: &mut [Option<u32>],
 ) -> Result<(), OutOfMemory>
-    requires lanes { switch_count fabric.now ≡ lanes.now.switches }
-    requires size { length last.old ≡ lanes.now.switches }
-    requires count { length gates.old ≡ source_count fabric.now }
+    requires size { length last.old ≡ routing.now.lanes.now.switches }
+    requires count { length gates.old ≡ source_count routing.now.fabric.now }
     requires none { length spots.old.items ≡ 0 }
     requires last { AreLastGates spots.old.items last.old }
-    ensures { IfOk result (λ _. AreGatesBelow fabric.now (lanes_of lanes.now) traffic (source_count fabric.now)
-        spots.new.items gates.new) }
+    ensures { IfOk result (λ _. AreGatesBelow routing.now.fabric.now (lanes_of routing.now.lanes.now)
+        routing.now.traffic (source_count routing.now.fabric.now) spots.new.items gates.new) }
 {
-    'sources: for place in 0..sources(fabric) {
-        let source = source_of(fabric, place);
-        let gate = gate_of(fabric, lanes, traffic, source, spots, last)?;
+    'sources: for place in 0..sources(routing.fabric) {
+        let source = source_of(routing.fabric, place);
+        let gate = gate_of(routing, source, spots, last)?;
         gates[place] = gate;
     }
     Ok(())
 }
 
-/// The gates of a traffic.
-pub fn find_gates(
-    alloc: Global,
-    fabric: &Fabric,
-    lanes: &LaneRows,
-    traffic: Traffic,
-) -> Result<Gates, OutOfMemory>
-    requires { switch_count fabric.now ≡ lanes.now.switches }
-    ensures { IfOk result (λ g. AreGates fabric.now (lanes_of lanes.now) traffic g.spots.items g.gates.items) }
+/// The gates of a routing.
+pub fn find_gates(alloc: Global, routing: &LaneRouting<'_>) -> Result<Gates, OutOfMemory>
+    ensures { IfOk result (AreGatesOn routing.now) }
 {
     let mut spots = Vec::new(alloc);
-    let mut last = vec![in alloc; None; fabric.switches()]?;
-    let mut gates = vec![in alloc; None; sources(fabric)]?;
-    put_gates(fabric, lanes, traffic, &mut spots, &mut last, &mut gates)?;
+    let mut last = vec![in alloc; None; routing.fabric.switches()]?;
+    let mut gates = vec![in alloc; None; sources(routing.fabric)]?;
+    put_gates(routing, &mut spots, &mut last, &mut gates)?;
     Ok(Gates { spots, gates })
 }

@@ -9,9 +9,11 @@
 //! (`gate`), so that first hops are taken once for all of them (`start`).
 #![tactic(auto)]
 
+mod block;
 pub mod departure;
 pub mod find;
 pub mod gate;
 mod mark;
+mod room;
 mod start;
 mod wave;

@@ -4,28 +4,27 @@ ghost use Rattle.std.specs.Prelude.{◌≡◌, ◌<◌, ◌≤◌, ◌+◌, ◌*
 ghost use Rattle.std.specs.Int.{bit_at};
 ghost use Rattle.ib_net.specs.declared.node.Spot.{Spot};
 ghost use Rattle.ib_net.specs.Fabric.{owner_of, switch_count};
-ghost use Rattle.ib_cells.specs.Cells.{TablesOf, tables_of};
-ghost use Rattle.ib_rows.specs.Lanes.{LanesOf, lanes_of};
+ghost use Rattle.ib_cells.specs.Cells.{tables_of};
 ghost use Rattle.ib_rows.specs.Levels.{levels_of};
 ghost use Rattle.ib_rows.specs.PathLevels.{AreLevelsBelow, HasLevel, told_levels};
 ghost use Rattle.ib_routes.specs.Waves.{HasBit};
 ghost use Rattle.ib_lane_routes.specs.LaneExits.{IsExit, exit_of};
-ghost use Rattle.ib_lane_waves.specs.LaneGates.{AreGates, source_at, source_count};
-ghost use Rattle.ib_lane_waves.specs.LaneBlocks.{AreBegunBy, AreOwned, AreSent, AreSetBy, IsFirstHop, IsOfGates, IsOfRow};
+ghost use Rattle.ib_lane_waves.specs.LaneGates.{AreGatesOn, source_at, source_count};
+ghost use Rattle.ib_lane_waves.specs.LaneBlocks.{AreBegunOf, AreOwned, AreSent, AreSetBy, IsFirstHop, IsOfGate, IsOfGates};
 ghost use Rattle.ib_lane_waves.specs.LaneBlocks.{StandsAlready};
+ghost use Rattle.ib_lane_waves.specs.LaneSteps.{place_count};
 
+use crate::block::BlockRoutes;
 use crate::departure::{Departure, place_of};
 use crate::gate::{Gates, place_of_source, source_of, sources};
 use crate::mark::{clear, mark};
 use channel_graph::bits::{lowest, without};
-use ib_cells::cells::Cells;
 use ib_lane_routes::hop::{Exit, LaneHop, find_exit, hop_through};
+use ib_lane_routes::routing::LaneRouting;
 use ib_net::fabric::Fabric;
 use ib_net::node::{EndPort, Spot};
 use ib_routes::start::targets_of;
-use ib_routes::traffic::Traffic;
 use ib_routes::word::{fresh_of, has_bit, with_bit};
-use ib_rows::lanes::LaneRows;
 use ib_rows::levels::{LevelRows, Levels};
 
 // Sets the bit of a LID of a block in the word of the end port that owns it.
@@ -123,10 +122,8 @@ fn add_source(
 // to which the one before sends, if it has the same gate and the same levels.
 #[inline]
 fn stand_already(
-    fabric: &Fabric,
-    levels: &Levels,
+    routes: &BlockRoutes<'_>,
     targets: u64,
-    block: usize,
     gates: &Gates,
     owned: &[u64],
     place: usize,
@@ -134,10 +131,10 @@ fn stand_already(
 ) -> u64
     requires place { place < length owned.now }
     requires few { place < 2 ^ 17 }
-    requires size { length owned.now ≡ source_count fabric.now }
+    requires size { length owned.now ≡ source_count routes.now.routing.fabric.now }
     requires gates { length gates.now.gates.items ≡ length owned.now }
-    ensures { (bit : ℕ) → bit_at result bit ≡ 1 → StandsAlready fabric.now (levels_of levels.now) targets block
-        gates.now.gates.items owned.now place gate bit }
+    ensures { (bit : ℕ) → bit_at result bit ≡ 1 → StandsAlready routes.now.routing.fabric.now
+        (levels_of routes.now.routing.levels.now) targets routes.now.block gates.now.gates.items owned.now place gate bit }
 {
     if place == 0 {
         return 0;
@@ -148,8 +145,9 @@ fn stand_already(
     if other != gate {
         return 0;
     }
+    let LaneRouting { fabric, levels, .. } = routes.routing;
     let before = source_of(fabric, place - 1);
-    if !levels.are_same(source_of(fabric, place), before, block) {
+    if !levels.are_same(source_of(fabric, place), before, routes.block) {
         return 0;
     }
     fresh_of(targets, owned[place - 1])
@@ -157,35 +155,32 @@ fn stand_already(
 
 /// Puts for each gate and level below a number the LIDs of a block to which some end port of the gate sends with the level.
 pub fn put_sent(
-    fabric: &Fabric,
-    levels: &Levels,
-    top: usize,
-    traffic: Traffic,
-    block: usize,
+    routes: &BlockRoutes<'_>,
     gates: &Gates,
+    top: usize,
     owned: &[u64],
     sent: &mut [u64],
 )
+    requires gates { AreGatesOn routes.now.routing gates.now }
     requires few { top ≤ 16 }
-    requires top { AreLevelsBelow (levels_of levels.now) top }
-    requires block { block < 1024 }
-    requires gates { (lanes : LanesOf) × AreGates fabric.now lanes traffic gates.now.spots.items gates.now.gates.items }
-    requires size { length owned.now ≡ source_count fabric.now }
-    requires owned { AreOwned fabric.now block owned.now }
+    requires top { AreLevelsBelow (levels_of routes.now.routing.levels.now) top }
+    requires size { length owned.now ≡ source_count routes.now.routing.fabric.now }
+    requires owned { AreOwned routes.now.routing.fabric.now routes.now.block owned.now }
     requires sent { length sent.old ≡ length gates.now.spots.items * top }
-    ensures { AreSent fabric.now traffic (levels_of levels.now) gates.now.gates.items (length gates.now.spots.items)
-        block top sent.new }
+    ensures { AreSent routes.now.routing.fabric.now routes.now.routing.traffic (levels_of routes.now.routing.levels.now)
+        gates.now.gates.items (length gates.now.spots.items) routes.now.block top sent.new }
 {
-    let targets = targets_of(fabric, traffic, block);
+    let routing = &routes.routing;
+    let targets = targets_of(routing.fabric, routing.traffic, routes.block);
     clear(sent);
-    'sources: for place in 0..sources(fabric) {
+    'sources: for place in 0..sources(routing.fabric) {
         if let Some(gate) = gates.gates[place] {
             let word = fresh_of(targets, owned[place]);
-            let had = stand_already(fabric, levels, targets, block, gates, owned, place, gate);
-            let source = source_of(fabric, place);
+            let had = stand_already(routes, targets, gates, owned, place, gate);
+            let source = source_of(routing.fabric, place);
             add_source(
-                levels,
-                block,
+                routing.levels,
+                routes.block,
                 source,
                 gate as usize * top,
                 fresh_of(word, had),
@@ -199,28 +194,25 @@ pub fn put_sent(
 // before.
 #[inline]
 fn begin_one(
-    fabric: &Fabric,
-    lanes: &LaneRows,
-    level: usize,
-    block: usize,
-    bit: usize,
+    routes: &BlockRoutes<'_>,
     spot: Spot,
     exit: Exit,
+    level: usize,
+    bit: usize,
     seen: &mut [u64],
     stopped: bool,
 ) -> bool
-    requires lanes { switch_count fabric.now ≡ lanes.now.switches }
+    requires spot { spot.switch < switch_count routes.now.routing.fabric.now }
+    requires exit { IsExit routes.now.routing.fabric.now spot.switch exit }
+    requires told { exit ≡ exit_of routes.now.routing.fabric.now spot.switch
+        (tables_of routes.now.routing.cells.now spot.switch (64 * routes.now.block + bit)) }
     requires level { level < 16 }
-    requires block { block < 1024 }
     requires bit { bit < 64 }
-    requires spot { spot.switch < switch_count fabric.now }
-    requires exit { IsExit fabric.now spot.switch exit }
-    requires room { (level + 1) * switch_count fabric.now * lanes.now.count ≤ length seen.old }
-    ensures { (tables : TablesOf) → exit ≡ exit_of fabric.now spot.switch (tables spot.switch (64 * block + bit))
-        → AreBegunBy fabric.now tables (lanes_of lanes.now) lanes.now.count block (IsFirstHop spot level bit)
-        seen.old seen.new stopped result }
+    requires room { place_count routes.now.routing (level + 1) ≤ length seen.old }
+    ensures { AreBegunOf routes.now (IsFirstHop spot level bit) seen.old seen.new stopped result }
 {
-    match hop_through(fabric, lanes, level, 64 * block + bit, spot, exit) {
+    let LaneRouting { fabric, lanes, .. } = routes.routing;
+    match hop_through(fabric, lanes, level, 64 * routes.block + bit, spot, exit) {
         LaneHop::On(_, lane, _) => {
             let departure = Departure {
                 level,
@@ -237,87 +229,63 @@ fn begin_one(
     }
 }
 
-// The same with each of the levels below a number of which the word has the bit.
+// The same with each level of which the word has the bit.
 #[inline]
 fn begin_bit(
-    fabric: &Fabric,
-    cells: &Cells,
-    lanes: &LaneRows,
-    block: usize,
-    bit: usize,
+    routes: &BlockRoutes<'_>,
     spot: Spot,
-    sent: &[u64],
-    row: usize,
-    top: usize,
+    words: &[u64],
+    bit: usize,
     seen: &mut [u64],
     stopped: bool,
 ) -> bool
-    requires same { switch_count fabric.now ≡ cells.now.switches }
-    requires lanes { switch_count fabric.now ≡ lanes.now.switches }
-    requires block { block < cells.now.blocks }
-    requires few { block < 1024 }
+    requires spot { spot.switch < switch_count routes.now.routing.fabric.now }
+    requires few { length words.now ≤ 16 }
     requires bit { bit < 64 }
-    requires spot { spot.switch < switch_count fabric.now }
-    requires top { top ≤ 16 }
-    requires sent { row + top ≤ length sent.now }
-    requires room { top * switch_count fabric.now * lanes.now.count ≤ length seen.old }
-    ensures { AreBegunBy fabric.now (tables_of cells.now) (lanes_of lanes.now) lanes.now.count block
-        (λ at level other. IsOfRow spot sent.now row top at level other × (other ≡ bit))
+    requires room { place_count routes.now.routing (length words.now) ≤ length seen.old }
+    ensures { AreBegunOf routes.now (λ at level other. IsOfGate spot words.now at level other × (other ≡ bit))
         seen.old seen.new stopped result }
 {
-    let exit = find_exit(fabric, cells, spot.switch as usize, block, bit);
+    let LaneRouting { fabric, cells, .. } = routes.routing;
+    let exit = find_exit(fabric, cells, spot.switch as usize, routes.block, bit);
     let mut stops = stopped;
-    'levels: for level in 0..top {
-        if has_bit(sent[row + level], bit) {
-            stops = begin_one(fabric, lanes, level, block, bit, spot, exit, seen, stops);
+    'levels: for level in 0..words.len() {
+        if has_bit(words[level], bit) {
+            stops = begin_one(routes, spot, exit, level, bit, seen, stops);
         }
     }
     stops
 }
 
-// The bits that some word of a row has.
-fn union(sent: &[u64], row: usize, top: usize) -> u64
-    requires { row + top ≤ length sent.now }
-    ensures { (bit : ℕ) → ((bit_at result bit ≡ 1) ↔ ((level : ℕ) × (level < top) × HasBit sent.now (row + level) bit)) }
+// The bits that some word has.
+fn union(words: &[u64]) -> u64
+    ensures { (bit : ℕ) → ((bit_at result bit ≡ 1) ↔ ((level : ℕ) × (level < length words.now) × HasBit words.now level bit)) }
 {
     let mut all = 0u64;
-    'levels: for level in 0..top {
-        all = all | sent[row + level];
+    'levels: for word in words {
+        all = all | *word;
     }
     all
 }
 
-// Begins the routes of a gate to the LIDs of a block.
+// Begins the routes of a gate to the LIDs of a block. It has a word for each level.
 fn begin(
-    fabric: &Fabric,
-    cells: &Cells,
-    lanes: &LaneRows,
-    block: usize,
+    routes: &BlockRoutes<'_>,
     spot: Spot,
-    sent: &[u64],
-    row: usize,
-    top: usize,
+    words: &[u64],
     seen: &mut [u64],
     stopped: bool,
 ) -> bool
-    requires same { switch_count fabric.now ≡ cells.now.switches }
-    requires lanes { switch_count fabric.now ≡ lanes.now.switches }
-    requires block { block < cells.now.blocks }
-    requires few { block < 1024 }
-    requires spot { spot.switch < switch_count fabric.now }
-    requires top { top ≤ 16 }
-    requires sent { row + top ≤ length sent.now }
-    requires room { top * switch_count fabric.now * lanes.now.count ≤ length seen.old }
-    ensures { AreBegunBy fabric.now (tables_of cells.now) (lanes_of lanes.now) lanes.now.count block
-        (IsOfRow spot sent.now row top) seen.old seen.new stopped result }
+    requires spot { spot.switch < switch_count routes.now.routing.fabric.now }
+    requires few { length words.now ≤ 16 }
+    requires room { place_count routes.now.routing (length words.now) ≤ length seen.old }
+    ensures { AreBegunOf routes.now (IsOfGate spot words.now) seen.old seen.new stopped result }
 {
-    let mut left = union(sent, row, top);
+    let mut left = union(words);
     let mut stops = stopped;
     'bits: while left > 0 {
         let bit = lowest(left);
-        stops = begin_bit(
-            fabric, cells, lanes, block, bit, spot, sent, row, top, seen, stops,
-        );
+        stops = begin_bit(routes, spot, words, bit, seen, stops);
         left = without(left, bit);
     }
     stops
@@ -325,34 +293,25 @@ fn begin(
 
 /// Begins the routes of all gates to the LIDs of a block. Answers whether one stops at its first switch, or one has before.
 pub fn begin_all(
-    fabric: &Fabric,
-    cells: &Cells,
-    lanes: &LaneRows,
-    block: usize,
+    routes: &BlockRoutes<'_>,
     spots: &[Spot],
-    sent: &[u64],
     top: usize,
+    sent: &[u64],
     seen: &mut [u64],
     stopped: bool,
 ) -> bool
-    requires same { switch_count fabric.now ≡ cells.now.switches }
-    requires lanes { switch_count fabric.now ≡ lanes.now.switches }
-    requires block { block < cells.now.blocks }
-    requires few { block < 1024 }
-    requires spots { (gate : ℕ) (spot : Spot) → slice_get spots.now gate ≡ Some spot → spot.switch < switch_count fabric.now }
+    requires spots { (gate : ℕ) (spot : Spot) → slice_get spots.now gate ≡ Some spot
+        → spot.switch < switch_count routes.now.routing.fabric.now }
     requires top { top ≤ 16 }
     requires sent { length sent.now ≡ length spots.now * top }
-    requires room { top * switch_count fabric.now * lanes.now.count ≤ length seen.old }
-    ensures { AreBegunBy fabric.now (tables_of cells.now) (lanes_of lanes.now) lanes.now.count block
-        (IsOfGates spots.now sent.now top) seen.old seen.new stopped result }
+    requires room { place_count routes.now.routing top ≤ length seen.old }
+    ensures { AreBegunOf routes.now (IsOfGates spots.now sent.now top) seen.old seen.new stopped result }
 {
     let mut stops = stopped;
     'gates: for gate in 0..spots.len() {
-        let spot = spots[gate];
         let row = gate * top;
-        stops = begin(
-            fabric, cells, lanes, block, spot, sent, row, top, seen, stops,
-        );
+        let words = &sent[row..row + top];
+        stops = begin(routes, spots[gate], words, seen, stops);
     }
     stops
 }

@@ -2,24 +2,21 @@
 
 ghost use Rattle.std.specs.Prelude.{◌≡◌, ◌<◌, ◌≤◌, ◌+◌, ◌-◌, ◌*◌, ◌^◌, ◌⊎◌, ◌↔◌, ℕ, length, MatchOption};
 ghost use Rattle.std.specs.Int.{bit_at};
-ghost use Rattle.ib_cells.specs.Cells.{tables_of};
-ghost use Rattle.ib_rows.specs.Lanes.{lanes_of};
 ghost use Rattle.ib_routes.specs.Waves.{HasBit, IsIdle, IsLink};
 ghost use Rattle.ib_lane_routes.specs.LaneFound.{lane_number};
 ghost use Rattle.ib_net.specs.Fabric.{switch_count};
-ghost use Rattle.ib_lane_waves.specs.LaneSteps.{AddsOne, ArePlaces, IsLaneGraphOf, StepsOf, StopsOf, departure_place};
+ghost use Rattle.ib_lane_waves.specs.LaneSteps.{AddsOne, AreWordsOn, IsGraphOn, IsLaneGraphOf, StepsOf, StopsOf, place_on};
 ghost use Rattle.ib_lane_waves.specs.Waves.{IsFurther, IsSpread, IsTurned, Taken};
 
+use crate::block::BlockRoutes;
 use crate::departure::{Departure, departure_at, place_of};
 use crate::mark::mark;
 use channel_graph::bits::{lowest, without};
 use channel_graph::graph::Graph;
-use ib_cells::cells::Cells;
-use ib_lane_routes::hop::{LaneHop, find_lane_hop};
-use ib_lane_routes::way::find_way;
+use ib_lane_routes::hop::LaneHop;
+use ib_lane_routes::routing::LaneRouting;
 use ib_net::fabric::Fabric;
 use ib_routes::word::{fresh_of, joined};
-use ib_rows::lanes::LaneRows;
 
 // The number of a channel: out of a port of a switch, on one of so many lanes.
 #[inline]
@@ -72,10 +69,7 @@ fn depend(
 // something has stopped before. If it goes on, the place to which it leads is ahead: a hint, on which nothing rests.
 #[inline]
 fn take(
-    fabric: &Fabric,
-    cells: &Cells,
-    lanes: &LaneRows,
-    block: usize,
+    routes: &BlockRoutes<'_>,
     from: Departure,
     bit: usize,
     seen: &mut [u64],
@@ -83,28 +77,25 @@ fn take(
     ahead: &mut usize,
     stopped: bool,
 ) -> bool
-    requires same { switch_count fabric.now ≡ cells.now.switches }
-    requires lanes { switch_count fabric.now ≡ lanes.now.switches }
     requires level { from.level < 16 }
-    requires switch { from.switch < switch_count fabric.now }
-    requires lane { from.lane < lanes.now.count }
-    requires block { block < cells.now.blocks }
+    requires switch { from.switch < switch_count routes.now.routing.fabric.now }
+    requires lane { from.lane < routes.now.routing.lanes.now.count }
     requires bit { bit < 64 }
-    requires places { ArePlaces (switch_count fabric.now) lanes.now.count (length seen.old) }
-    requires place { departure_place (switch_count fabric.now) lanes.now.count from.level from.switch from.lane < length seen.old }
-    requires graph { IsLaneGraphOf fabric.now lanes.now.count graph.old }
-    ensures { Taken (StepsOf fabric.now (tables_of cells.now) (lanes_of lanes.now) lanes.now.count block)
-        (StopsOf fabric.now (tables_of cells.now) (lanes_of lanes.now) lanes.now.count block)
-        (λ place other. (place ≡ departure_place (switch_count fabric.now) lanes.now.count from.level from.switch from.lane) × (other ≡ bit))
+    requires places { AreWordsOn routes.now.routing seen.old }
+    requires place { place_on routes.now.routing from < length seen.old }
+    requires graph { IsGraphOn routes.now.routing graph.old }
+    ensures { Taken (StepsOf routes.now) (StopsOf routes.now) (λ place other. (place ≡ place_on routes.now.routing from) × (other ≡ bit))
         (record { seen = seen.old; graph = graph.old; stopped = stopped })
         (record { seen = seen.new; graph = graph.new; stopped = result }) }
 {
-    let Some(way) = find_way(fabric, cells, from.switch, block, bit) else {
+    let routing = &routes.routing;
+    let Some(way) = routing.find_way(from.switch, routes.block, bit) else {
         return stopped;
     };
-    match find_lane_hop(fabric, cells, lanes, from.level, block, bit, way.next) {
+    match routing.find_lane_hop(from.level, routes.block, bit, way.next) {
         LaneHop::On(next_port, lane, _) => {
-            let count = lanes.count();
+            let fabric = routing.fabric;
+            let count = routing.lanes.count();
             let to = Departure {
                 level: from.level,
                 switch: way.next.switch as usize,
@@ -125,10 +116,7 @@ fn take(
 // Takes the steps from a place for each LID of which a bit is fresh.
 #[inline]
 fn visit(
-    fabric: &Fabric,
-    cells: &Cells,
-    lanes: &LaneRows,
-    block: usize,
+    routes: &BlockRoutes<'_>,
     place: usize,
     fresh: u64,
     seen: &mut [u64],
@@ -136,26 +124,20 @@ fn visit(
     ahead: &mut usize,
     stopped: bool,
 ) -> bool
-    requires same { switch_count fabric.now ≡ cells.now.switches }
-    requires lanes { switch_count fabric.now ≡ lanes.now.switches }
-    requires block { block < cells.now.blocks }
-    requires places { ArePlaces (switch_count fabric.now) lanes.now.count (length seen.old) }
-    requires graph { IsLaneGraphOf fabric.now lanes.now.count graph.old }
+    requires places { AreWordsOn routes.now.routing seen.old }
+    requires graph { IsGraphOn routes.now.routing graph.old }
     requires place { place < length seen.old }
-    ensures { Taken (StepsOf fabric.now (tables_of cells.now) (lanes_of lanes.now) lanes.now.count block)
-        (StopsOf fabric.now (tables_of cells.now) (lanes_of lanes.now) lanes.now.count block)
-        (λ at other. (at ≡ place) × (bit_at fresh other ≡ 1))
+    ensures { Taken (StepsOf routes.now) (StopsOf routes.now) (λ at other. (at ≡ place) × (bit_at fresh other ≡ 1))
         (record { seen = seen.old; graph = graph.old; stopped = stopped })
         (record { seen = seen.new; graph = graph.new; stopped = result }) }
 {
+    let LaneRouting { fabric, lanes, .. } = routes.routing;
     let from = departure_at(fabric.switches(), lanes.count(), place);
     let mut left = fresh;
     let mut stops = stopped;
     'bits: while left > 0 {
         let bit = lowest(left);
-        stops = take(
-            fabric, cells, lanes, block, from, bit, seen, graph, ahead, stops,
-        );
+        stops = take(routes, from, bit, seen, graph, ahead, stops);
         left = without(left, bit);
     }
     stops
@@ -164,10 +146,7 @@ fn visit(
 // Takes the steps from a place that were not taken yet, if there are any.
 #[inline]
 fn turn(
-    fabric: &Fabric,
-    cells: &Cells,
-    lanes: &LaneRows,
-    block: usize,
+    routes: &BlockRoutes<'_>,
     place: usize,
     seen: &mut [u64],
     done: &mut [u64],
@@ -175,18 +154,14 @@ fn turn(
     ahead: &mut usize,
     stopped: bool,
 ) -> Option<bool>
-    requires same { switch_count fabric.now ≡ cells.now.switches }
-    requires lanes { switch_count fabric.now ≡ lanes.now.switches }
-    requires block { block < cells.now.blocks }
-    requires places { ArePlaces (switch_count fabric.now) lanes.now.count (length seen.old) }
-    requires graph { IsLaneGraphOf fabric.now lanes.now.count graph.old }
+    requires places { AreWordsOn routes.now.routing seen.old }
+    requires graph { IsGraphOn routes.now.routing graph.old }
     requires place { place < length seen.old }
     requires done_count { length done.old ≡ length seen.old }
     ensures { MatchOption result
         (IsIdle place (record { seen = seen.old; graph = graph.old; stopped = stopped })
         (record { seen = seen.new; graph = graph.new; stopped = stopped }) done.old done.new)
-        (λ stops. IsTurned (StepsOf fabric.now (tables_of cells.now) (lanes_of lanes.now) lanes.now.count block)
-        (StopsOf fabric.now (tables_of cells.now) (lanes_of lanes.now) lanes.now.count block) place
+        (λ stops. IsTurned (StepsOf routes.now) (StopsOf routes.now) place
         (record { seen = seen.old; graph = graph.old; stopped = stopped })
         (record { seen = seen.new; graph = graph.new; stopped = stops }) done.old done.new) }
 {
@@ -196,48 +171,35 @@ fn turn(
         return None;
     }
     done[place] = joined(gone, fresh);
-    Some(visit(
-        fabric, cells, lanes, block, place, fresh, seen, graph, ahead, stopped,
-    ))
+    Some(visit(routes, place, fresh, seen, graph, ahead, stopped))
 }
 
 // Takes the steps from a place that were not taken yet, if there are any; then those from the place to which the last of
 // them led, and so on until one has none.
 fn follow(
-    fabric: &Fabric,
-    cells: &Cells,
-    lanes: &LaneRows,
-    block: usize,
+    routes: &BlockRoutes<'_>,
     place: usize,
     seen: &mut [u64],
     done: &mut [u64],
     graph: &mut Graph,
     stopped: bool,
 ) -> Option<bool>
-    requires same { switch_count fabric.now ≡ cells.now.switches }
-    requires lanes { switch_count fabric.now ≡ lanes.now.switches }
-    requires block { block < cells.now.blocks }
-    requires places { ArePlaces (switch_count fabric.now) lanes.now.count (length seen.old) }
-    requires graph { IsLaneGraphOf fabric.now lanes.now.count graph.old }
+    requires places { AreWordsOn routes.now.routing seen.old }
+    requires graph { IsGraphOn routes.now.routing graph.old }
     requires place { place < length seen.old }
     requires done_count { length done.old ≡ length seen.old }
     ensures { MatchOption result
         (IsIdle place (record { seen = seen.old; graph = graph.old; stopped = stopped })
         (record { seen = seen.new; graph = graph.new; stopped = stopped }) done.old done.new)
-        (λ stops. IsFurther (StepsOf fabric.now (tables_of cells.now) (lanes_of lanes.now) lanes.now.count block)
-        (StopsOf fabric.now (tables_of cells.now) (lanes_of lanes.now) lanes.now.count block)
+        (λ stops. IsFurther (StepsOf routes.now) (StopsOf routes.now)
         (record { seen = seen.old; graph = graph.old; stopped = stopped })
         (record { seen = seen.new; graph = graph.new; stopped = stops }) done.old done.new) }
 {
     let mut ahead = place;
-    let mut stops = turn(
-        fabric, cells, lanes, block, place, seen, done, graph, &mut ahead, stopped,
-    )?;
+    let mut stops = turn(routes, place, seen, done, graph, &mut ahead, stopped)?;
     'turns: while ahead < seen.len() {
         let next = ahead;
-        match turn(
-            fabric, cells, lanes, block, next, seen, done, graph, &mut ahead, stops,
-        ) {
+        match turn(routes, next, seen, done, graph, &mut ahead, stops) {
             Some(now) => stops = now,
             None => break 'turns,
         }
@@ -247,24 +209,17 @@ fn follow(
 
 /// Rounds over the places until nothing is fresh. The bits that are seen are those of the places at which routes begin.
 pub fn run(
-    fabric: &Fabric,
-    cells: &Cells,
-    lanes: &LaneRows,
-    block: usize,
+    routes: &BlockRoutes<'_>,
     seen: &mut [u64],
     done: &mut [u64],
     graph: &mut Graph,
     stopped: bool,
 ) -> bool
-    requires same { switch_count fabric.now ≡ cells.now.switches }
-    requires lanes { switch_count fabric.now ≡ lanes.now.switches }
-    requires block { block < cells.now.blocks }
-    requires places { ArePlaces (switch_count fabric.now) lanes.now.count (length seen.old) }
-    requires graph { IsLaneGraphOf fabric.now lanes.now.count graph.old }
+    requires places { AreWordsOn routes.now.routing seen.old }
+    requires graph { IsGraphOn routes.now.routing graph.old }
     requires done_count { length done.old ≡ length seen.old }
     requires none { (place bit : ℕ) → HasBit done.old place bit → ⊥ }
-    ensures { IsSpread (StepsOf fabric.now (tables_of cells.now) (lanes_of lanes.now) lanes.now.count block)
-        (StopsOf fabric.now (tables_of cells.now) (lanes_of lanes.now) lanes.now.count block)
+    ensures { IsSpread (StepsOf routes.now) (StopsOf routes.now)
         (record { seen = seen.old; graph = graph.old; stopped = stopped })
         (record { seen = seen.new; graph = graph.new; stopped = result }) }
 {
@@ -273,9 +228,7 @@ pub fn run(
     'rounds: while fresh {
         fresh = false;
         'places: for place in 0..seen.len() {
-            if let Some(now) = follow(
-                fabric, cells, lanes, block, place, seen, done, graph, stops,
-            ) {
+            if let Some(now) = follow(routes, place, seen, done, graph, stops) {
                 stops = now;
                 fresh = true;
             }

@@ -6,32 +6,27 @@ ghost use Rattle.ib_cells.specs.Cells.{tables_of};
 ghost use Rattle.ib_net.specs.declared.node.EndPort.{EndPort};
 ghost use Rattle.ib_net.specs.declared.node.Spot.{Spot};
 ghost use Rattle.ib_net.specs.Fabric.{IsFabric, switch_count};
-ghost use Rattle.ib_rows.specs.Lanes.{lanes_of};
-ghost use Rattle.ib_rows.specs.Levels.{levels_of};
 ghost use Rattle.ib_lane_routes.specs.declared.hop.LaneHop.TheVariants.{On};
 ghost use Rattle.ib_lane_routes.specs.LaneFound.{IsLeastLaneWitness};
 ghost use Rattle.ib_routes.specs.Witness.{IsFirst};
-ghost use Rattle.ib_lane_routes.specs.LaneRoutes.{lane_hop};
 ghost use Rattle.ib_lane_routes.specs.LaneWays.{IsWay};
+ghost use Rattle.ib_lane_routes.specs.Routing.{by_lanes, by_routing, hop_by};
 ghost use Rattle.ib_lane_witness.specs.Search.{AreOn, AreOnFor, GoesBy, IsLeastAt, IsLeastLevel, IsReadyFor};
 ghost use Rattle.ib_lane_witness.specs.Search.{Takes, TakesAs, count_of, end_at};
 ghost use Rattle.ib_lane_witness.specs.Witness.{HasNoLaneWitness, lane_channel_of};
 
 use crate::walk::goes_by;
 use an_base::memory::OutOfMemory;
-use ib_cells::cells::Cells;
-use ib_lane_routes::hop::{LaneHop, lane_hop_at};
+use ib_lane_routes::hop::LaneHop;
+use ib_lane_routes::routing::LaneRouting;
 use ib_lane_routes::start::begin_at;
-use ib_lane_routes::way::find_way;
 use ib_net::fabric::Fabric;
 use ib_net::node::{EndPort, Spot};
 use ib_routes::start::is_target;
 use ib_routes::trace::Mark;
-use ib_routes::traffic::Traffic;
 use ib_routes::witness::{comes, lesser};
 use ib_routes::word::{has_bit, with_bit};
-use ib_rows::lanes::{LEVELS, LaneRows};
-use ib_rows::levels::Levels;
+use ib_rows::lanes::LEVELS;
 use std::alloc::Global;
 
 /// A channel: the link out of a port of a switch, on a lane.
@@ -110,16 +105,15 @@ fn is_by(does: LaneHop, channel: LaneSpot) -> bool
 
 // The port of a switch to which the link of a channel leads, if what goes to a LID leaves its switch by it.
 // Blocks have 64 LIDs.
-fn comes_out(fabric: &Fabric, cells: &Cells, lid: usize, channel: LaneSpot) -> Option<Spot>
-    requires same { switch_count fabric.now ≡ cells.now.switches }
-    requires lid { lid < 64 * cells.now.blocks }
-    requires channel { channel.switch < switch_count fabric.now }
+fn comes_out(routing: &LaneRouting<'_>, lid: usize, channel: LaneSpot) -> Option<Spot>
+    requires lid { lid < 64 * routing.now.cells.now.blocks }
+    requires channel { channel.switch < switch_count routing.now.fabric.now }
     ensures way { MatchOption result
-        ((spot : Spot) → IsWay fabric.now (tables_of cells.now) lid channel.switch channel.port spot → ⊥)
-        (IsWay fabric.now (tables_of cells.now) lid channel.switch channel.port) }
-    ensures within { IfSome result (λ spot. spot.switch < switch_count fabric.now) }
+        ((spot : Spot) → IsWay routing.now.fabric.now (tables_of routing.now.cells.now) lid channel.switch channel.port spot → ⊥)
+        (IsWay routing.now.fabric.now (tables_of routing.now.cells.now) lid channel.switch channel.port) }
+    ensures within { IfSome result (λ spot. spot.switch < switch_count routing.now.fabric.now) }
 {
-    let Some(way) = find_way(fabric, cells, channel.switch as usize, lid / 64, lid % 64) else {
+    let Some(way) = routing.find_way(channel.switch as usize, lid / 64, lid % 64) else {
         return None;
     };
     if way.port != channel.port {
@@ -130,23 +124,14 @@ fn comes_out(fabric: &Fabric, cells: &Cells, lid: usize, channel: LaneSpot) -> O
 
 // The levels with which what goes to a LID and leaves a switch by the link of a channel goes on by the next channel, as
 // bits.
-fn levels_on(
-    fabric: &Fabric,
-    cells: &Cells,
-    lanes: &LaneRows,
-    lid: usize,
-    channel: LaneSpot,
-    next: LaneSpot,
-) -> u64
-    requires same { switch_count fabric.now ≡ cells.now.switches }
-    requires lanes { switch_count fabric.now ≡ lanes.now.switches }
-    requires lid { lid < 64 * cells.now.blocks }
-    requires channel { channel.switch < switch_count fabric.now }
-    requires next { next.switch < switch_count fabric.now }
-    ensures { AreOn fabric.now (tables_of cells.now) (lanes_of lanes.now) lid
+fn levels_on(routing: &LaneRouting<'_>, lid: usize, channel: LaneSpot, next: LaneSpot) -> u64
+    requires lid { lid < 64 * routing.now.cells.now.blocks }
+    requires channel { channel.switch < switch_count routing.now.fabric.now }
+    requires next { next.switch < switch_count routing.now.fabric.now }
+    ensures { by_lanes AreOn routing.now lid
         (lane_channel_of channel) (lane_channel_of next) result }
 {
-    let Some(spot) = comes_out(fabric, cells, lid, channel) else {
+    let Some(spot) = comes_out(routing, lid, channel) else {
         return 0;
     };
     if spot.switch != next.switch {
@@ -154,7 +139,7 @@ fn levels_on(
     }
     let mut word = 0u64;
     'levels: for level in 0..LEVELS {
-        if is_by(lane_hop_at(fabric, cells, lanes, level, lid, spot), next) {
+        if is_by(routing.lane_hop_at(level, lid, spot), next) {
             word = with_bit(word, level);
         }
     }
@@ -164,23 +149,19 @@ fn levels_on(
 // Whether a level is in a word and in that of what is sought, and what has it and goes to the LID goes by the channel, from
 // a port of a switch on.
 fn goes_with(
-    fabric: &Fabric,
-    cells: &Cells,
-    lanes: &LaneRows,
+    routing: &LaneRouting<'_>,
     level: usize,
     with: u64,
     sought: Sought,
     start: Spot,
     seen: &mut [bool],
 ) -> bool
-    requires same { switch_count fabric.now ≡ cells.now.switches }
-    requires lanes { switch_count fabric.now ≡ lanes.now.switches }
     requires level { level < 16 }
-    requires lid { sought.lid < 64 * cells.now.blocks }
-    requires start { start.switch < switch_count fabric.now }
-    requires seen { length seen.old ≡ switch_count fabric.now }
+    requires lid { sought.lid < 64 * routing.now.cells.now.blocks }
+    requires start { start.switch < switch_count routing.now.fabric.now }
+    requires seen { length seen.old ≡ switch_count routing.now.fabric.now }
     ensures { IsTrue result ↔ ((bit_at with level ≡ 1) × (bit_at sought.on level ≡ 1)
-        × GoesBy (lane_hop fabric.now (tables_of cells.now) (lanes_of lanes.now) level sought.lid) start
+        × GoesBy (hop_by routing.now level sought.lid) start
         (lane_channel_of sought.channel)) }
 {
     if !has_bit(with, level) {
@@ -189,53 +170,47 @@ fn goes_with(
     if !has_bit(sought.on, level) {
         return false;
     }
-    goes_by(
-        fabric,
-        cells,
-        lanes,
-        level,
-        sought.lid,
-        sought.channel,
-        start,
-        seen,
-    )
+    goes_by(routing, level, sought.lid, sought.channel, start, seen)
 }
 
 // The least level with which the route of an end port to the LID takes the channel and then, directly, the next one. Only
 // the routes that come to the switch of the channel on one lane are followed.
 fn least_level(
-    fabric: &Fabric,
-    cells: &Cells,
-    lanes: &LaneRows,
-    levels: &Levels,
-    traffic: Traffic,
+    routing: &LaneRouting<'_>,
     sought: Sought,
     marks: &mut [Mark],
     path: &mut [u32],
     seen: &mut [bool],
     source: EndPort,
 ) -> Option<u8>
-    requires same { switch_count fabric.now ≡ cells.now.switches }
-    requires lanes { switch_count fabric.now ≡ lanes.now.switches }
-    requires few { switch_count fabric.now ≤ 2 ^ 14 }
-    requires lid { sought.lid < 64 * cells.now.blocks }
-    requires on { AreOnFor fabric.now (tables_of cells.now) (lanes_of lanes.now) sought }
-    requires room { switch_count fabric.now ≤ length path.old }
-    requires seen { length seen.old ≡ switch_count fabric.now }
-    requires ready { IsReadyFor fabric.now (tables_of cells.now) sought marks.old }
-    ensures ready { IsReadyFor fabric.now (tables_of cells.now) sought marks.new }
-    ensures level { MatchOption result (TakesAs fabric.now (tables_of cells.now) (lanes_of lanes.now) traffic (levels_of levels.now) sought source → ⊥)
-        (IsLeastLevel fabric.now (tables_of cells.now) (lanes_of lanes.now) traffic (levels_of levels.now) sought.lid
+    requires few { switch_count routing.now.fabric.now ≤ 2 ^ 14 }
+    requires lid { sought.lid < 64 * routing.now.cells.now.blocks }
+    requires on { by_lanes AreOnFor routing.now sought }
+    requires room { switch_count routing.now.fabric.now ≤ length path.old }
+    requires seen { length seen.old ≡ switch_count routing.now.fabric.now }
+    requires ready { IsReadyFor routing.now.fabric.now (tables_of routing.now.cells.now) sought marks.old }
+    ensures ready { IsReadyFor routing.now.fabric.now (tables_of routing.now.cells.now) sought marks.new }
+    ensures level { MatchOption result (by_routing TakesAs routing.now sought source → ⊥)
+        (by_routing IsLeastLevel routing.now sought.lid
         (lane_channel_of sought.channel) (lane_channel_of sought.next) source) }
 {
     let via = sought.channel.switch;
-    if !comes(fabric, cells, traffic, sought.lid, via, marks, path, source) {
+    if !comes(
+        routing.fabric,
+        routing.cells,
+        routing.traffic,
+        sought.lid,
+        via,
+        marks,
+        path,
+        source,
+    ) {
         return None;
     }
-    let start = begin_at(fabric, source)?;
-    let with = u64::from(levels.levels(source, sought.lid));
+    let start = begin_at(routing.fabric, source)?;
+    let with = u64::from(routing.levels.levels(source, sought.lid));
     'levels: for level in 0..LEVELS {
-        if goes_with(fabric, cells, lanes, level, with, sought, start, seen) {
+        if goes_with(routing, level, with, sought, start, seen) {
             return Some(level as u8);
         }
     }
@@ -244,31 +219,23 @@ fn least_level(
 
 // Whether it takes the two with some level.
 fn takes(
-    fabric: &Fabric,
-    cells: &Cells,
-    lanes: &LaneRows,
-    levels: &Levels,
-    traffic: Traffic,
+    routing: &LaneRouting<'_>,
     sought: Sought,
     marks: &mut [Mark],
     path: &mut [u32],
     seen: &mut [bool],
     source: EndPort,
 ) -> bool
-    requires same { switch_count fabric.now ≡ cells.now.switches }
-    requires lanes { switch_count fabric.now ≡ lanes.now.switches }
-    requires few { switch_count fabric.now ≤ 2 ^ 14 }
-    requires lid { sought.lid < 64 * cells.now.blocks }
-    requires on { AreOnFor fabric.now (tables_of cells.now) (lanes_of lanes.now) sought }
-    requires room { switch_count fabric.now ≤ length path.old }
-    requires seen { length seen.old ≡ switch_count fabric.now }
-    requires ready { IsReadyFor fabric.now (tables_of cells.now) sought marks.old }
-    ensures ready { IsReadyFor fabric.now (tables_of cells.now) sought marks.new }
-    ensures takes { IsTrue result ↔ TakesAs fabric.now (tables_of cells.now) (lanes_of lanes.now) traffic (levels_of levels.now) sought source }
+    requires few { switch_count routing.now.fabric.now ≤ 2 ^ 14 }
+    requires lid { sought.lid < 64 * routing.now.cells.now.blocks }
+    requires on { by_lanes AreOnFor routing.now sought }
+    requires room { switch_count routing.now.fabric.now ≤ length path.old }
+    requires seen { length seen.old ≡ switch_count routing.now.fabric.now }
+    requires ready { IsReadyFor routing.now.fabric.now (tables_of routing.now.cells.now) sought marks.old }
+    ensures ready { IsReadyFor routing.now.fabric.now (tables_of routing.now.cells.now) sought marks.new }
+    ensures takes { IsTrue result ↔ by_routing TakesAs routing.now sought source }
 {
-    match least_level(
-        fabric, cells, lanes, levels, traffic, sought, marks, path, seen, source,
-    ) {
+    match least_level(routing, sought, marks, path, seen, source) {
         Some(_) => true,
         None => false,
     }
@@ -276,35 +243,27 @@ fn takes(
 
 // The first of the end ports of a kind, which stand by rising GUID, whose route does.
 fn first_of_kind(
-    fabric: &Fabric,
-    cells: &Cells,
-    lanes: &LaneRows,
-    levels: &Levels,
-    traffic: Traffic,
+    routing: &LaneRouting<'_>,
     sought: Sought,
     marks: &mut [Mark],
     path: &mut [u32],
     seen: &mut [bool],
     kind: Kind,
 ) -> Option<u32>
-    requires same { switch_count fabric.now ≡ cells.now.switches }
-    requires lanes { switch_count fabric.now ≡ lanes.now.switches }
-    requires few { switch_count fabric.now ≤ 2 ^ 14 }
-    requires lid { sought.lid < 64 * cells.now.blocks }
-    requires on { AreOnFor fabric.now (tables_of cells.now) (lanes_of lanes.now) sought }
-    requires room { switch_count fabric.now ≤ length path.old }
-    requires seen { length seen.old ≡ switch_count fabric.now }
-    requires ready { IsReadyFor fabric.now (tables_of cells.now) sought marks.old }
-    ensures ready { IsReadyFor fabric.now (tables_of cells.now) sought marks.new }
+    requires few { switch_count routing.now.fabric.now ≤ 2 ^ 14 }
+    requires lid { sought.lid < 64 * routing.now.cells.now.blocks }
+    requires on { by_lanes AreOnFor routing.now sought }
+    requires room { switch_count routing.now.fabric.now ≤ length path.old }
+    requires seen { length seen.old ≡ switch_count routing.now.fabric.now }
+    requires ready { IsReadyFor routing.now.fabric.now (tables_of routing.now.cells.now) sought marks.old }
+    ensures ready { IsReadyFor routing.now.fabric.now (tables_of routing.now.cells.now) sought marks.new }
     ensures first { MatchOption result
-        ((place : ℕ) → TakesAs fabric.now (tables_of cells.now) (lanes_of lanes.now) traffic (levels_of levels.now) sought (end_at kind place) → ⊥)
-        (IsFirst (λ place. TakesAs fabric.now (tables_of cells.now) (lanes_of lanes.now) traffic (levels_of levels.now) sought (end_at kind place))) }
+        ((place : ℕ) → by_routing TakesAs routing.now sought (end_at kind place) → ⊥)
+        (IsFirst (λ place. by_routing TakesAs routing.now sought (end_at kind place))) }
 {
-    'places: for place in 0..kind.count(fabric) {
+    'places: for place in 0..kind.count(routing.fabric) {
         let source = kind.end_port(place as u32);
-        if takes(
-            fabric, cells, lanes, levels, traffic, sought, marks, path, seen, source,
-        ) {
+        if takes(routing, sought, marks, path, seen, source) {
             return Some(place as u32);
         }
     }
@@ -313,68 +272,48 @@ fn first_of_kind(
 
 // The end port of least GUID whose route does, and its least level.
 fn first_of_all(
-    fabric: &Fabric,
-    cells: &Cells,
-    lanes: &LaneRows,
-    levels: &Levels,
-    traffic: Traffic,
+    routing: &LaneRouting<'_>,
     sought: Sought,
     marks: &mut [Mark],
     path: &mut [u32],
     seen: &mut [bool],
 ) -> Option<(EndPort, u8)>
-    requires same { switch_count fabric.now ≡ cells.now.switches }
-    requires lanes { switch_count fabric.now ≡ lanes.now.switches }
-    requires few { switch_count fabric.now ≤ 2 ^ 14 }
-    requires lid { sought.lid < 64 * cells.now.blocks }
-    requires on { AreOnFor fabric.now (tables_of cells.now) (lanes_of lanes.now) sought }
-    requires room { switch_count fabric.now ≤ length path.old }
-    requires seen { length seen.old ≡ switch_count fabric.now }
-    requires ready { IsReadyFor fabric.now (tables_of cells.now) sought marks.old }
-    requires fabric { IsFabric fabric.now }
-    ensures { MatchOption result ((source : EndPort) → TakesAs fabric.now (tables_of cells.now) (lanes_of lanes.now) traffic (levels_of levels.now) sought source → ⊥)
-        (λ found. IsLeastAt fabric.now (tables_of cells.now) (lanes_of lanes.now) traffic (levels_of levels.now) sought.lid
+    requires few { switch_count routing.now.fabric.now ≤ 2 ^ 14 }
+    requires lid { sought.lid < 64 * routing.now.cells.now.blocks }
+    requires on { by_lanes AreOnFor routing.now sought }
+    requires room { switch_count routing.now.fabric.now ≤ length path.old }
+    requires seen { length seen.old ≡ switch_count routing.now.fabric.now }
+    requires ready { IsReadyFor routing.now.fabric.now (tables_of routing.now.cells.now) sought marks.old }
+    requires fabric { IsFabric routing.now.fabric.now }
+    ensures { MatchOption result ((source : EndPort) → by_routing TakesAs routing.now sought source → ⊥)
+        (λ found. by_routing IsLeastAt routing.now sought.lid
         (lane_channel_of sought.channel) (lane_channel_of sought.next) found.0 found.1) }
 {
     let hosts = Kind::Hosts;
     let switches = Kind::Switches;
-    let host = first_of_kind(
-        fabric, cells, lanes, levels, traffic, sought, marks, path, seen, hosts,
-    );
-    let switch = first_of_kind(
-        fabric, cells, lanes, levels, traffic, sought, marks, path, seen, switches,
-    );
-    let source = lesser(fabric, host, switch)?;
-    let level = least_level(
-        fabric, cells, lanes, levels, traffic, sought, marks, path, seen, source,
-    )?;
+    let host = first_of_kind(routing, sought, marks, path, seen, hosts);
+    let switch = first_of_kind(routing, sought, marks, path, seen, switches);
+    let source = lesser(routing.fabric, host, switch)?;
+    let level = least_level(routing, sought, marks, path, seen, source)?;
     Some((source, level))
 }
 
 // The same, in rooms of its own.
 fn first_found(
     alloc: Global,
-    fabric: &Fabric,
-    cells: &Cells,
-    lanes: &LaneRows,
-    levels: &Levels,
-    traffic: Traffic,
+    routing: &LaneRouting<'_>,
     sought: Sought,
 ) -> Result<Option<(EndPort, u8)>, OutOfMemory>
-    requires same { switch_count fabric.now ≡ cells.now.switches }
-    requires lanes { switch_count fabric.now ≡ lanes.now.switches }
-    requires lid { sought.lid < 64 * cells.now.blocks }
-    requires on { AreOnFor fabric.now (tables_of cells.now) (lanes_of lanes.now) sought }
-    ensures { IfOk result (λ found. MatchOption found ((source : EndPort) → TakesAs fabric.now (tables_of cells.now) (lanes_of lanes.now) traffic (levels_of levels.now) sought source → ⊥)
-        (λ least. IsLeastAt fabric.now (tables_of cells.now) (lanes_of lanes.now) traffic (levels_of levels.now) sought.lid
+    requires lid { sought.lid < 64 * routing.now.cells.now.blocks }
+    requires on { by_lanes AreOnFor routing.now sought }
+    ensures { IfOk result (λ found. MatchOption found ((source : EndPort) → by_routing TakesAs routing.now sought source → ⊥)
+        (λ least. by_routing IsLeastAt routing.now sought.lid
         (lane_channel_of sought.channel) (lane_channel_of sought.next) least.0 least.1)) }
 {
-    let mut marks = vec![in alloc; Mark::New; fabric.switches()]?;
-    let mut path = vec![in alloc; 0u32; fabric.switches()]?;
-    let mut seen = vec![in alloc; false; fabric.switches()]?;
-    let found = first_of_all(
-        fabric, cells, lanes, levels, traffic, sought, &mut marks, &mut path, &mut seen,
-    );
+    let mut marks = vec![in alloc; Mark::New; routing.fabric.switches()]?;
+    let mut path = vec![in alloc; 0u32; routing.fabric.switches()]?;
+    let mut seen = vec![in alloc; false; routing.fabric.switches()]?;
+    let found = first_of_all(routing, sought, &mut marks, &mut path, &mut seen);
     Ok(found)
 }
 
@@ -382,30 +321,24 @@ fn first_found(
 // least level.
 fn witness_at(
     alloc: Global,
-    fabric: &Fabric,
-    cells: &Cells,
-    lanes: &LaneRows,
-    levels: &Levels,
-    traffic: Traffic,
+    routing: &LaneRouting<'_>,
     lid: usize,
     channel: LaneSpot,
     next: LaneSpot,
 ) -> Result<Option<(EndPort, u8)>, OutOfMemory>
-    requires same { switch_count fabric.now ≡ cells.now.switches }
-    requires lanes { switch_count fabric.now ≡ lanes.now.switches }
-    requires lid { lid < 64 * cells.now.blocks }
-    requires channel { channel.switch < switch_count fabric.now }
-    requires next { next.switch < switch_count fabric.now }
+    requires lid { lid < 64 * routing.now.cells.now.blocks }
+    requires channel { channel.switch < switch_count routing.now.fabric.now }
+    requires next { next.switch < switch_count routing.now.fabric.now }
     ensures { IfOk result (λ found. MatchOption found
-        ((source : EndPort) → Takes fabric.now (tables_of cells.now) (lanes_of lanes.now) traffic (levels_of levels.now)
+        ((source : EndPort) → by_routing Takes routing.now
         lid (lane_channel_of channel) (lane_channel_of next) source → ⊥)
-        (λ least. IsLeastAt fabric.now (tables_of cells.now) (lanes_of lanes.now) traffic (levels_of levels.now) lid
+        (λ least. by_routing IsLeastAt routing.now lid
         (lane_channel_of channel) (lane_channel_of next) least.0 least.1)) }
 {
-    if !is_target(fabric, traffic, lid) {
+    if !is_target(routing.fabric, routing.traffic, lid) {
         return Ok(None);
     }
-    let on = levels_on(fabric, cells, lanes, lid, channel, next);
+    let on = levels_on(routing, lid, channel, next);
     if on == 0 {
         return Ok(None);
     }
@@ -415,7 +348,7 @@ fn witness_at(
         next,
         on,
     };
-    let found = first_found(alloc, fabric, cells, lanes, levels, traffic, sought)?;
+    let found = first_found(alloc, routing, sought)?;
     Ok(found)
 }
 
@@ -424,29 +357,20 @@ fn witness_at(
 /// memory alone.
 pub fn find_lane_witness(
     alloc: Global,
-    fabric: &Fabric,
-    cells: &Cells,
-    lanes: &LaneRows,
-    levels: &Levels,
-    traffic: Traffic,
+    routing: &LaneRouting<'_>,
     channel: LaneSpot,
     next: LaneSpot,
 ) -> Result<Option<LaneWitness>, OutOfMemory>
-    requires same { switch_count fabric.now ≡ cells.now.switches }
-    requires lanes { switch_count fabric.now ≡ lanes.now.switches }
-    requires owners { length fabric.now.owners ≤ 64 * cells.now.blocks }
-    requires channel { channel.switch < switch_count fabric.now }
-    requires next { next.switch < switch_count fabric.now }
+    requires channel { channel.switch < switch_count routing.now.fabric.now }
+    requires next { next.switch < switch_count routing.now.fabric.now }
     ensures { IfOk result (λ found. MatchOption found
-        (HasNoLaneWitness fabric.now (tables_of cells.now) (lanes_of lanes.now) traffic (levels_of levels.now)
+        (by_routing HasNoLaneWitness routing.now
         (lane_channel_of channel) (lane_channel_of next))
-        (λ w. IsLeastLaneWitness fabric.now (tables_of cells.now) (lanes_of lanes.now) traffic (levels_of levels.now)
+        (λ w. by_routing IsLeastLaneWitness routing.now
         (lane_channel_of channel) (lane_channel_of next) w.lid w.source w.level)) }
 {
-    'lids: for lid in 0..fabric.lids() {
-        let found = witness_at(
-            alloc, fabric, cells, lanes, levels, traffic, lid, channel, next,
-        )?;
+    'lids: for lid in 0..routing.fabric.lids() {
+        let found = witness_at(alloc, routing, lid, channel, next)?;
         if let Some((source, level)) = found {
             let lid = lid as u16;
             return Ok(Some(LaneWitness { lid, source, level }));

@@ -1,10 +1,15 @@
-use Rattle.std.proofs.Common.{ℕ, subst}
+use Rattle.std.proofs.Common.{ℕ, subst, sym}
 use Rattle.std.proofs.lemmas.Bool.{OnTrue_at}
 use Rattle.ib_cells.specs.Cells.{tables_of}
 use Rattle.ib_lane_counts.specs.Keep.{IsKept}
+use Rattle.ib_lane_counts.specs.LaneCounts.{AreLaneCounts}
+use Rattle.ib_rows.specs.declared.levels.Levels.{Levels}
 use Rattle.ib_rows.specs.Lanes.{lanes_of}
+use Rattle.ib_rows.specs.Levels.{levels_of}
 use Rattle.ib_lane_counts.proofs.count.count_alike.Goals as goal
 
 pub returns-clause-counts : goal.returns-clause-counts
-returns-clause-counts c = c.alike_counts.ensures.counts c.args.fabric.now (tables_of c.args.cells.now) (lanes_of c.args.lanes.now) c.args.traffic c.is_kept.ensures.fabric
-    (subst (λ (n : ℕ). IsKept c.args.fabric.now (lanes_of c.args.lanes.now) n) c.from.ensures (OnTrue_at c.if-not-is_kept.false c.is_kept.ensures.kept)) c.in_ok-counts.ensures.counts
+returns-clause-counts c =
+    subst (λ (levels : Levels). AreLaneCounts c.args.routing.now.fabric.now (tables_of c.args.routing.now.cells.now) (lanes_of c.args.routing.now.lanes.now) c.args.routing.now.traffic (levels_of levels) c.alike_counts.result) (sym c.requires)
+    (c.alike_counts.ensures.counts c.args.routing.now.fabric.now (tables_of c.args.routing.now.cells.now) (lanes_of c.args.routing.now.lanes.now) c.args.routing.now.traffic c.is_kept.ensures.fabric
+    (subst (λ (n : ℕ). IsKept c.args.routing.now.fabric.now (lanes_of c.args.routing.now.lanes.now) n) c.from.ensures (OnTrue_at c.if-not-is_kept.false c.is_kept.ensures.kept)) c.in_ok-counts.ensures.counts)

@@ -10,8 +10,8 @@ use Rattle.ib_lane_counts.proofs.count.count_lids.Goals as goal
 pub lids-init : goal.lids-init
 lids-init c = record {
   rooms = c.requires.rooms;
-  counts = subst (λ (n : LaneCounts). AreCountsUntil c.args.fabric.now (tables_of c.args.cells.now) (lanes_of c.args.lanes.now) c.args.traffic (levels_of c.args.levels.now) 0 0 0 n) (sym c.none-counts.ensures) (first_counts c.args.fabric.now (tables_of c.args.cells.now) (lanes_of c.args.lanes.now) c.args.traffic (levels_of c.args.levels.now));
+  counts = subst (λ (n : LaneCounts). AreCountsUntil c.args.routing.now.fabric.now (tables_of c.args.routing.now.cells.now) (lanes_of c.args.routing.now.lanes.now) c.args.routing.now.traffic (levels_of c.args.routing.now.levels.now) 0 0 0 n) (sym c.none-counts.ensures) (first_counts c.args.routing.now.fabric.now (tables_of c.args.routing.now.cells.now) (lanes_of c.args.routing.now.lanes.now) c.args.routing.now.traffic (levels_of c.args.routing.now.levels.now));
 }
 
 pub returns-clause-counts : goal.returns-clause-counts
-returns-clause-counts c = subst (λ (n : ℕ). AreCountsUntil c.args.fabric.now (tables_of c.args.cells.now) (lanes_of c.args.lanes.now) c.args.traffic (levels_of c.args.levels.now) n 0 0 c.lids.counts) (omega arith) c.lids.invariant.counts
+returns-clause-counts c = subst (λ (n : ℕ). AreCountsUntil c.args.routing.now.fabric.now (tables_of c.args.routing.now.cells.now) (lanes_of c.args.routing.now.lanes.now) c.args.routing.now.traffic (levels_of c.args.routing.now.levels.now) n 0 0 c.lids.counts) (omega arith) c.lids.invariant.counts

@@ -8,6 +8,6 @@ use Rattle.ib_lane_counts.proofs.count.count_lids.Given as goal
 -- the counts with the LIDs so far
 abbrev pub invariant-lids : goal.invariant-lids
 invariant-lids l = record {
-  rooms : AreRooms (switch_count l.fabric) l.rooms;
-  counts : AreCountsUntil l.fabric (tables_of l.cells) (lanes_of l.lanes) l.traffic (levels_of l.levels) l.lid 0 0 l.counts;
+  rooms : AreRooms (switch_count l.routing.fabric.now) l.rooms;
+  counts : AreCountsUntil l.routing.fabric.now (tables_of l.routing.cells.now) (lanes_of l.routing.lanes.now) l.routing.traffic (levels_of l.routing.levels.now) l.lid 0 0 l.counts;
 }

@@ -7,7 +7,7 @@ use Rattle.ib_lane_counts.proofs.gone.join_next.Goals as goal
 
 pub returns-clause-joined : goal.returns-clause-joined
 returns-clause-joined c = record {
-  some = joined_some c.args.fabric.now (tables_of c.args.cells.now) (lanes_of c.args.lanes.now) c.args.lid c.args.gone.now c.args.switch c.joined.result c.fresh_of-fresh.result (omega arith) c.joined.ensures.bits
+  some = joined_some c.args.routing.now.fabric.now (tables_of c.args.routing.now.cells.now) (lanes_of c.args.routing.now.lanes.now) c.args.lid c.args.gone.now c.args.switch c.joined.result c.fresh_of-fresh.result (omega arith) c.joined.ensures.bits
       (λ level new. (c.gone_next.ensures level).0 ((c.fresh_of-fresh.ensures level).0 new).0);
   less = gap_less c.args.gone.now c.args.switch c.joined.result (omega arith) c.joined.ensures.more (omega arith);
   count = length-set c.args.gone.now c.args.switch c.joined.result;

@@ -16,18 +16,18 @@ abbrev origin : LaneSpot
 origin = record { switch = 0; port = 0; lane = 0 }
 
 pub witness_of-requires-clause-depends : goal.witness_of-requires-clause-depends
-witness_of-requires-clause-depends c = loop_places (lane_spot_at c.args.most c.args.count) lane_channel_of lane_channel_cmp (LaneDependsOn c.args.fabric.now (tables_of c.args.cells.now) (lanes_of c.args.lanes.now) c.args.traffic (levels_of c.args.levels.now)) c.args.places.now c.places.at c.lane_spot_of-channel.result c.lane_spot_of-next.result c.places-test.true c.lane_spot_of-channel.ensures c.lane_spot_of-next.ensures c.requires.least
+witness_of-requires-clause-depends c = loop_places (lane_spot_at c.args.most c.args.count) lane_channel_of lane_channel_cmp (LaneDependsOn c.args.routing.now.fabric.now (tables_of c.args.routing.now.cells.now) (lanes_of c.args.routing.now.lanes.now) c.args.routing.now.traffic (levels_of c.args.routing.now.levels.now)) c.args.places.now c.places.at c.lane_spot_of-channel.result c.lane_spot_of-next.result c.places-test.true c.lane_spot_of-channel.ensures c.lane_spot_of-next.ensures c.requires.least
 
 pub places-preserved : goal.places-preserved
 places-preserved c =
     let spots = map (lane_spot_at c.args.most c.args.count) c.args.places.now in
     let one : LaneLoopChannel = record { channel = c.lane_spot_of-channel.result; witness = c.in_ok-witness.witness } in
     let size = length-map c.args.places.now (lane_spot_at c.args.most c.args.count) in
-    more channel_in (IsLaneWitnessed c.args.fabric.now (tables_of c.args.cells.now) (lanes_of c.args.lanes.now) c.args.traffic (levels_of c.args.levels.now)) spots c.places.channels.items c.push.new.self.items one c.places.at origin c.in_ok-push.ensures.items (let less = c.places-test.true in omega arith) c.places.invariant
+    more channel_in (IsLaneWitnessed c.args.routing.now.fabric.now (tables_of c.args.routing.now.cells.now) (lanes_of c.args.routing.now.lanes.now) c.args.routing.now.traffic (levels_of c.args.routing.now.levels.now)) spots c.places.channels.items c.push.new.self.items one c.places.at origin c.in_ok-push.ensures.items (let less = c.places-test.true in omega arith) c.places.invariant
     (sym (spot_there (lane_spot_at c.args.most c.args.count) c.args.places.now c.places.at origin c.lane_spot_of-channel.result c.places-test.true c.lane_spot_of-channel.ensures))
-    (subst (λ (s : LaneSpot). IsLaneWitnessed c.args.fabric.now (tables_of c.args.cells.now) (lanes_of c.args.lanes.now) c.args.traffic (levels_of c.args.levels.now) one s) (sym (next_at (lane_spot_at c.args.most c.args.count) c.args.places.now c.places.at origin c.lane_spot_of-next.result c.places-test.true c.lane_spot_of-next.ensures)) c.in_ok-witness.ensures)
+    (subst (λ (s : LaneSpot). IsLaneWitnessed c.args.routing.now.fabric.now (tables_of c.args.routing.now.cells.now) (lanes_of c.args.routing.now.lanes.now) c.args.routing.now.traffic (levels_of c.args.routing.now.levels.now) one s) (sym (next_at (lane_spot_at c.args.most c.args.count) c.args.places.now c.places.at origin c.lane_spot_of-next.result c.places-test.true c.lane_spot_of-next.ensures)) c.in_ok-witness.ensures)
 
 pub returns : goal.returns
 returns c =
     let size = length-map c.args.places.now (lane_spot_at c.args.most c.args.count) in
-    done c.args.fabric.now (tables_of c.args.cells.now) (lanes_of c.args.lanes.now) c.args.traffic (levels_of c.args.levels.now) (map (lane_spot_at c.args.most c.args.count) c.args.places.now) c.places.channels.items c.places.at c.requires.least (let past = c.places-test.false in omega arith) c.places.invariant
+    done c.args.routing.now.fabric.now (tables_of c.args.routing.now.cells.now) (lanes_of c.args.routing.now.lanes.now) c.args.routing.now.traffic (levels_of c.args.routing.now.levels.now) (map (lane_spot_at c.args.most c.args.count) c.args.places.now) c.places.channels.items c.places.at c.requires.least (let past = c.places-test.false in omega arith) c.places.invariant

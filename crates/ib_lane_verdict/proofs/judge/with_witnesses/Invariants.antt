@@ -8,4 +8,4 @@ use Rattle.ib_lane_verdict.proofs.judge.with_witnesses.Given as goal
 
 -- the channels so far
 abbrev pub invariant-places : goal.invariant-places
-invariant-places l = AreSoFar l.fabric (tables_of l.cells) (lanes_of l.lanes) l.traffic (levels_of l.levels) (map (lane_spot_at l.most l.count) l.places) l.at l.channels.items
+invariant-places l = AreSoFar l.routing.fabric.now (tables_of l.routing.cells.now) (lanes_of l.routing.lanes.now) l.routing.traffic (levels_of l.routing.levels.now) (map (lane_spot_at l.most l.count) l.places) l.at l.channels.items

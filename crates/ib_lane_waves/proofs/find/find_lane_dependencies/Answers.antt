@@ -7,7 +7,11 @@ use Rattle.ib_lane_waves.proofs.FindLemmas.{all_found, all_stopped}
 use Rattle.ib_lane_waves.proofs.find.find_lane_dependencies.Goals as goal
 
 pub returns-clause-graph : goal.returns-clause-graph
-returns-clause-graph c = all_found c.args.fabric.now (tables_of c.args.cells.now) (lanes_of c.args.lanes.now) c.args.lanes.now.count c.args.traffic (levels_of c.args.levels.now) (subst (IsLaneCount (lanes_of c.args.lanes.now)) c.count-count.ensures.count c.count-count.ensures.lanes) c.args.cells.now.blocks c.requires.owners c.in_ok-graph.graph c.add_dependencies.new.graph c.in_ok-stopped.stopped (subst (λ (n : ℕ). IsLaneGraphOf c.args.fabric.now n c.in_ok-graph.graph) c.count-count.ensures.count c.in_ok-graph.ensures.graph) c.in_ok-graph.ensures.none c.in_ok-stopped.ensures
+returns-clause-graph c =
+    let routing = c.args.routing.now in
+    all_found routing.fabric.now (tables_of routing.cells.now) (lanes_of routing.lanes.now) routing.lanes.now.count routing.traffic (levels_of routing.levels.now) (subst (IsLaneCount (lanes_of routing.lanes.now)) c.count-count.ensures.count c.count-count.ensures.lanes) routing.cells.now.blocks routing.owners c.in_ok-graph.graph c.add_dependencies.new.graph c.in_ok-stopped.stopped (subst (λ (n : ℕ). IsLaneGraphOf routing.fabric.now n c.in_ok-graph.graph) c.count-count.ensures.count c.in_ok-graph.ensures.graph) c.in_ok-graph.ensures.none c.in_ok-stopped.ensures
 
 pub returns-clause-stopped : goal.returns-clause-stopped
-returns-clause-stopped c = all_stopped c.args.fabric.now (tables_of c.args.cells.now) (lanes_of c.args.lanes.now) c.args.lanes.now.count c.args.traffic (levels_of c.args.levels.now) c.args.cells.now.blocks c.requires.owners c.in_ok-graph.graph c.add_dependencies.new.graph c.in_ok-stopped.stopped c.in_ok-stopped.ensures
+returns-clause-stopped c =
+    let routing = c.args.routing.now in
+    all_stopped routing.fabric.now (tables_of routing.cells.now) (lanes_of routing.lanes.now) routing.lanes.now.count routing.traffic (levels_of routing.levels.now) routing.cells.now.blocks routing.owners c.in_ok-graph.graph c.add_dependencies.new.graph c.in_ok-stopped.stopped c.in_ok-stopped.ensures

@@ -6,21 +6,26 @@ use Rattle.ib_lane_waves.proofs.GateLemmas.{IsGate, gates_more, gates_none}
 use Rattle.ib_lane_waves.proofs.gate.put_gates.Goals as goal
 
 pub sources-init : goal.sources-init
-sources-init c = record {
-  gates = gates_none c.args.fabric.now (lanes_of c.args.lanes.now) c.args.traffic c.args.spots.now.items c.args.gates.now c.requires.none;
-  last = c.requires.last;
-}
+sources-init c =
+    let routing = c.args.routing.now in
+    record {
+      gates = gates_none routing.fabric.now (lanes_of routing.lanes.now) routing.traffic c.args.spots.now.items c.args.gates.now c.requires.none;
+      last = c.requires.last;
+    }
 
 pub sources-preserved : goal.sources-preserved
-sources-preserved c = record {
-  gates = gates_more c.args.fabric.now (lanes_of c.args.lanes.now) c.args.traffic c.sources.place c.sources.spots.items c.gate_of.new.spots.items c.sources.gates c.in_ok-gate.gate (omega arith)
-      (subst (λ (n : ℕ). AreMoreSpots n c.sources.spots.items c.gate_of.new.spots.items) (sym c.requires.lanes) c.in_ok-gate.ensures.more)
-      (subst (λ (source : EndPort). IsGate c.args.fabric.now (lanes_of c.args.lanes.now) c.args.traffic c.gate_of.new.spots.items source c.in_ok-gate.gate) c.source_of-source.ensures c.in_ok-gate.ensures.gate)
-      c.sources.invariant.gates;
-  last = c.in_ok-gate.ensures.last;
-}
+sources-preserved c =
+    let routing = c.args.routing.now in
+    record {
+      gates = gates_more routing.fabric.now (lanes_of routing.lanes.now) routing.traffic c.sources.place c.sources.spots.items c.gate_of.new.spots.items c.sources.gates c.in_ok-gate.gate (omega arith)
+          (subst (λ (n : ℕ). AreMoreSpots n c.sources.spots.items c.gate_of.new.spots.items) (sym routing.rows) c.in_ok-gate.ensures.more)
+          (subst (λ (source : EndPort). IsGate routing.fabric.now (lanes_of routing.lanes.now) routing.traffic c.gate_of.new.spots.items source c.in_ok-gate.gate) c.source_of-source.ensures c.in_ok-gate.ensures.gate)
+          c.sources.invariant.gates;
+      last = c.in_ok-gate.ensures.last;
+    }
 
 pub returns : goal.returns
 returns c =
-    let end : c.sources.place ≡ source_count c.args.fabric.now = omega arith in
-    subst (λ (n : ℕ). AreGatesBelow c.args.fabric.now (lanes_of c.args.lanes.now) c.args.traffic n c.sources.spots.items c.sources.gates) end c.sources.invariant.gates
+    let routing = c.args.routing.now in
+    let end : c.sources.place ≡ source_count routing.fabric.now = omega arith in
+    subst (λ (n : ℕ). AreGatesBelow routing.fabric.now (lanes_of routing.lanes.now) routing.traffic n c.sources.spots.items c.sources.gates) end c.sources.invariant.gates

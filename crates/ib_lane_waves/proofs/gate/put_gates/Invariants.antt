@@ -4,6 +4,6 @@ use Rattle.ib_lane_waves.proofs.gate.put_gates.Given as goal
 
 abbrev pub invariant-sources : goal.invariant-sources
 invariant-sources l = record {
-  gates : AreGatesBelow l.fabric (lanes_of l.lanes) l.traffic l.place l.spots.items l.gates;
+  gates : AreGatesBelow l.routing.fabric.now (lanes_of l.routing.lanes.now) l.routing.traffic l.place l.spots.items l.gates;
   last : AreLastGates l.spots.items l.last;
 }

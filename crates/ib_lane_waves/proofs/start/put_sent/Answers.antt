@@ -2,6 +2,7 @@ use Rattle.std.proofs.Common.{◌≡◌, ◌∙◌, ◌<◌, ◌+◌, ◌*◌, s
 use Rattle.std.proofs.lemmas.List.{get_or_default}
 use Rattle.std.proofs.lemmas.Nat.{mul-add-lt}
 use Rattle.ib_net.specs.declared.node.EndPort.{EndPort}
+use Rattle.ib_rows.specs.Lanes.{lanes_of}
 use Rattle.ib_rows.specs.Levels.{levels_of}
 use Rattle.ib_lane_waves.specs.LaneBlocks.{AreSetBy}
 use Rattle.ib_lane_waves.specs.LaneGates.{source_count}
@@ -16,40 +17,50 @@ row_low : (gate top level count room : ℕ) → gate < count → level < top →
 row_low gate top level count room low below size = let a = mul-add-lt gate top level count low below in omega arith
 
 pub sources-init : goal.sources-init
-sources-init c = subst (λ (words : List ℕ). AreSentBelow c.args.fabric.now c.args.traffic c.args.block (levels_of c.args.levels.now) c.args.gates.now.gates.items c.args.top 0 words) (sym c.clear.ensures)
-    (sent_none c.args.fabric.now c.args.traffic c.args.block (levels_of c.args.levels.now) c.args.gates.now.gates.items c.args.top (length c.args.sent.now))
+sources-init c =
+    let routes = c.args.routes.now in
+    let routing = routes.routing in
+    subst (λ (words : List ℕ). AreSentBelow routing.fabric.now routing.traffic routes.block (levels_of routing.levels.now) c.args.gates.now.gates.items c.args.top 0 words) (sym c.clear.ensures)
+    (sent_none routing.fabric.now routing.traffic routes.block (levels_of routing.levels.now) c.args.gates.now.gates.items c.args.top (length c.args.sent.now))
 
 pub add_source-requires-clause-room : goal.add_source-requires-clause-room
 add_source-requires-clause-room c = λ lid level has.
-    let (lanes, are) = c.requires.gates in
+    let routing = c.args.routes.now.routing in
+    let lanes = lanes_of routing.lanes.now in
+    let are = c.requires.gates in
     let is : get_or c.args.gates.now.gates.items c.sources.place None ≡ Some c.in-Some.gate = get_or_default c.args.gates.now.gates.items c.sources.place None c.index.result.now (let size = are.size in omega arith) ∙ sym c.index.ensures ∙ c.in-Some.is in
-    let there = gate_there c.args.fabric.now lanes c.args.traffic (source_count c.args.fabric.now) c.args.gates.now.spots.items c.args.gates.now.gates.items are.all c.sources.place c.in-Some.gate (omega arith) is in
+    let there = gate_there routing.fabric.now lanes routing.traffic (source_count routing.fabric.now) c.args.gates.now.spots.items c.args.gates.now.gates.items are.all c.sources.place c.in-Some.gate (omega arith) is in
     row_low c.in-Some.gate c.args.top level (length c.args.gates.now.spots.items) (length c.sources.sent) there.1 (c.requires.top c.source_of-source.result lid level has) (let a = c.sources.auto.sent in let b = c.clear.auto.words in let size = c.requires.sent in omega arith)
 
 pub sources-preserved : goal.sources-preserved
 sources-preserved c =
-    let (lanes, are) = c.requires.gates in
-    let low : c.sources.place < source_count c.args.fabric.now = omega arith in
+    let routes = c.args.routes.now in
+    let routing = routes.routing in
+    let lanes = lanes_of routing.lanes.now in
+    let are = c.requires.gates in
+    let low : c.sources.place < source_count routing.fabric.now = omega arith in
     let told = get_or_default c.args.gates.now.gates.items c.sources.place None c.index.result.now (let size = are.size in omega arith) ∙ sym c.index.ensures in
     elim c.match-index.branch [
       | in-Some w ↦ (
           let is : get_or c.args.gates.now.gates.items c.sources.place None ≡ Some w.in-Some.gate = told ∙ w.in-Some.is in
-          let there = gate_there c.args.fabric.now lanes c.args.traffic (source_count c.args.fabric.now) c.args.gates.now.spots.items c.args.gates.now.gates.items are.all c.sources.place w.in-Some.gate low is in
-          let sends = word_sends c.args.fabric.now c.args.traffic c.args.block c.sources.place c.targets_of-targets.result w.fresh_of-word.result c.args.owned.now low there.0 c.targets_of-targets.ensures c.requires.owned w.fresh_of-word.ensures in
-          subst (λ (words : List ℕ). AreSentBelow c.args.fabric.now c.args.traffic c.args.block (levels_of c.args.levels.now) c.args.gates.now.gates.items c.args.top (c.sources.place + 1) words) (sym w.sent-is)
-          (sent_more c.args.fabric.now c.args.traffic c.args.block (levels_of c.args.levels.now) c.args.gates.now.gates.items c.args.top c.sources.place w.in-Some.gate w.fresh_of-word.result c.sources.sent w.add_source.new.sent c.requires.top is sends
-          (sent_had c.args.fabric.now c.args.traffic c.args.block (levels_of c.args.levels.now) c.args.gates.now.gates.items c.args.top c.targets_of-targets.result c.args.owned.now c.sources.place w.in-Some.gate w.fresh_of-word.result w.stand_already-had.result w.fresh_of.result c.sources.sent w.add_source.new.sent c.targets_of-targets.ensures c.requires.owned low
-          (λ one before same. (gate_there c.args.fabric.now lanes c.args.traffic (source_count c.args.fabric.now) c.args.gates.now.spots.items c.args.gates.now.gates.items are.all one w.in-Some.gate before same).0)
+          let there = gate_there routing.fabric.now lanes routing.traffic (source_count routing.fabric.now) c.args.gates.now.spots.items c.args.gates.now.gates.items are.all c.sources.place w.in-Some.gate low is in
+          let sends = word_sends routing.fabric.now routing.traffic routes.block c.sources.place c.targets_of-targets.result w.fresh_of-word.result c.args.owned.now low there.0 c.targets_of-targets.ensures c.requires.owned w.fresh_of-word.ensures in
+          subst (λ (words : List ℕ). AreSentBelow routing.fabric.now routing.traffic routes.block (levels_of routing.levels.now) c.args.gates.now.gates.items c.args.top (c.sources.place + 1) words) (sym w.sent-is)
+          (sent_more routing.fabric.now routing.traffic routes.block (levels_of routing.levels.now) c.args.gates.now.gates.items c.args.top c.sources.place w.in-Some.gate w.fresh_of-word.result c.sources.sent w.add_source.new.sent c.requires.top is sends
+          (sent_had routing.fabric.now routing.traffic routes.block (levels_of routing.levels.now) c.args.gates.now.gates.items c.args.top c.targets_of-targets.result c.args.owned.now c.sources.place w.in-Some.gate w.fresh_of-word.result w.stand_already-had.result w.fresh_of.result c.sources.sent w.add_source.new.sent c.targets_of-targets.ensures c.requires.owned low
+          (λ one before same. (gate_there routing.fabric.now lanes routing.traffic (source_count routing.fabric.now) c.args.gates.now.spots.items c.args.gates.now.gates.items are.all one w.in-Some.gate before same).0)
           w.stand_already-had.ensures w.fresh_of.ensures c.requires.top c.sources.invariant
-          (subst (λ (source : EndPort). AreSetBy c.sources.sent w.add_source.new.sent (Told (levels_of c.args.levels.now) source c.args.block (w.in-Some.gate * c.args.top) w.fresh_of.result)) w.source_of-source.ensures w.add_source.ensures))
+          (subst (λ (source : EndPort). AreSetBy c.sources.sent w.add_source.new.sent (Told (levels_of routing.levels.now) source routes.block (w.in-Some.gate * c.args.top) w.fresh_of.result)) w.source_of-source.ensures w.add_source.ensures))
           c.sources.invariant))
-      | in_default w ↦ subst (λ (words : List ℕ). AreSentBelow c.args.fabric.now c.args.traffic c.args.block (levels_of c.args.levels.now) c.args.gates.now.gates.items c.args.top (c.sources.place + 1) words) (sym w.sent-is)
-          (sent_skip c.args.fabric.now c.args.traffic c.args.block (levels_of c.args.levels.now) c.args.gates.now.gates.items c.args.top c.sources.place c.sources.sent (told ∙ w.in_default.is) c.sources.invariant)
+      | in_default w ↦ subst (λ (words : List ℕ). AreSentBelow routing.fabric.now routing.traffic routes.block (levels_of routing.levels.now) c.args.gates.now.gates.items c.args.top (c.sources.place + 1) words) (sym w.sent-is)
+          (sent_skip routing.fabric.now routing.traffic routes.block (levels_of routing.levels.now) c.args.gates.now.gates.items c.args.top c.sources.place c.sources.sent (told ∙ w.in_default.is) c.sources.invariant)
     ]
 
 pub returns : goal.returns
 returns c =
-    let (lanes, are) = c.requires.gates in
+    let routes = c.args.routes.now in
+    let routing = routes.routing in
+    let are = c.requires.gates in
     let end : c.sources.place ≡ length c.args.gates.now.gates.items = (let size = are.size in omega arith) in
-    all_sent c.args.fabric.now c.args.traffic c.args.block (levels_of c.args.levels.now) c.args.gates.now.gates.items c.args.top (length c.args.gates.now.spots.items) c.sources.sent
-    (subst (λ (n : ℕ). AreSentBelow c.args.fabric.now c.args.traffic c.args.block (levels_of c.args.levels.now) c.args.gates.now.gates.items c.args.top n c.sources.sent) end c.sources.invariant)
+    all_sent routing.fabric.now routing.traffic routes.block (levels_of routing.levels.now) c.args.gates.now.gates.items c.args.top (length c.args.gates.now.spots.items) c.sources.sent
+    (subst (λ (n : ℕ). AreSentBelow routing.fabric.now routing.traffic routes.block (levels_of routing.levels.now) c.args.gates.now.gates.items c.args.top n c.sources.sent) end c.sources.invariant)

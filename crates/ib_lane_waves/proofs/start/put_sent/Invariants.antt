@@ -3,4 +3,4 @@ use Rattle.ib_lane_waves.proofs.SentLemmas.{AreSentBelow}
 use Rattle.ib_lane_waves.proofs.start.put_sent.Given as goal
 
 abbrev pub invariant-sources : goal.invariant-sources
-invariant-sources l = AreSentBelow l.fabric l.fn.traffic l.block (levels_of l.levels) l.gates.gates.items l.top l.place l.sent
+invariant-sources l = AreSentBelow l.routes.routing.fabric.now l.routes.routing.traffic l.routes.block (levels_of l.routes.routing.levels.now) l.gates.gates.items l.top l.place l.sent

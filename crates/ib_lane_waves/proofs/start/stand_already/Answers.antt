@@ -16,7 +16,7 @@ returns c = λ bit has.
       same = get_or_default c.args.gates.now.gates.items (c.args.place - 1) None c.index.result.now low ∙ sym c.index.ensures ∙ c.in-Some.is ∙ ap (λ (n : ℕ). Some n) c.if-other-gate.false;
       target = fresh.0;
       not_own = fresh.1;
-      levels_are = ap (λ (s : EndPort). levels_of c.args.levels.now s (64 * c.args.block + bit)) (sym c.source_of.ensures)
+      levels_are = ap (λ (s : EndPort). levels_of c.args.routes.now.routing.levels.now s (64 * c.args.routes.now.block + bit)) (sym c.source_of.ensures)
           ∙ c.are_same.ensures c.if-not-are_same.false bit fits
-          ∙ ap (λ (s : EndPort). levels_of c.args.levels.now s (64 * c.args.block + bit)) c.source_of-before.ensures;
+          ∙ ap (λ (s : EndPort). levels_of c.args.routes.now.routing.levels.now s (64 * c.args.routes.now.block + bit)) c.source_of-before.ensures;
     }

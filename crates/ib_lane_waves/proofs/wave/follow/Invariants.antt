@@ -1,5 +1,3 @@
-use Rattle.ib_cells.specs.Cells.{tables_of}
-use Rattle.ib_rows.specs.Lanes.{lanes_of}
 use Rattle.ib_routes.specs.Waves.{gap}
 use Rattle.ib_lane_waves.specs.LaneSteps.{StepsOf, StopsOf}
 use Rattle.ib_lane_waves.specs.Waves.{IsFurther}
@@ -8,7 +6,7 @@ use Rattle.ib_lane_waves.proofs.wave.follow.Given as goal
 -- each turn carries the waves further
 abbrev pub invariant-turns : goal.invariant-turns
 invariant-turns l =
-    IsFurther (StepsOf l.fabric (tables_of l.cells) (lanes_of l.lanes) l.lanes.count l.block) (StopsOf l.fabric (tables_of l.cells) (lanes_of l.lanes) l.lanes.count l.block) (record { seen = l.fn.seen; graph = l.fn.graph; stopped = l.stopped }) (record { seen = l.seen; graph = l.graph; stopped = l.stops }) l.fn.done l.done
+    IsFurther (StepsOf l.routes) (StopsOf l.routes) (record { seen = l.fn.seen; graph = l.fn.graph; stopped = l.stopped }) (record { seen = l.seen; graph = l.graph; stopped = l.stops }) l.fn.done l.done
 
 abbrev pub decreases-turns : goal.decreases-turns
 decreases-turns l = gap l.done

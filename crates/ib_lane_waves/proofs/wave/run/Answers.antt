@@ -1,6 +1,4 @@
 use Rattle.std.proofs.Common.{◌≡◌, ◌∙◌, refl, sym, ap, subst, ℕ, Bool, List, arith, length}
-use Rattle.ib_cells.specs.Cells.{tables_of}
-use Rattle.ib_rows.specs.Lanes.{lanes_of}
 use Rattle.ib_routes.specs.Waves.{StateOf, gap}
 use Rattle.ib_lane_waves.specs.LaneSteps.{StepsOf, StopsOf}
 use Rattle.ib_lane_waves.specs.Waves.{IsRunning}
@@ -10,7 +8,7 @@ use Rattle.ib_lane_waves.proofs.wave.run.Goals.{in-Some, in_default}
 
 pub rounds-init : goal.rounds-init
 rounds-init c = record {
-  running = run_first (StepsOf c.args.fabric.now (tables_of c.args.cells.now) (lanes_of c.args.lanes.now) c.args.lanes.now.count c.args.block) (StopsOf c.args.fabric.now (tables_of c.args.cells.now) (lanes_of c.args.lanes.now) c.args.lanes.now.count c.args.block) (record { seen = c.args.seen.now; graph = c.args.graph.now; stopped = c.args.stopped }) c.args.done.now c.requires.none c.requires.done_count;
+  running = run_first (StepsOf c.args.routes.now) (StopsOf c.args.routes.now) (record { seen = c.args.seen.now; graph = c.args.graph.now; stopped = c.args.stopped }) c.args.done.now c.requires.none c.requires.done_count;
   count = refl;
   rest = λ e. absurd (cc);
 }
@@ -24,7 +22,7 @@ places-preserved c =
           let less = further.less in
           let most = so_far.most in
           record {
-            running = subst (λ (b : Bool). IsRunning (StepsOf c.args.fabric.now (tables_of c.args.cells.now) (lanes_of c.args.lanes.now) c.args.lanes.now.count c.args.block) (StopsOf c.args.fabric.now (tables_of c.args.cells.now) (lanes_of c.args.lanes.now) c.args.lanes.now.count c.args.block) (record { seen = c.args.seen.now; graph = c.args.graph.now; stopped = c.args.stopped }) (record { seen = c.follow.new.seen; graph = c.follow.new.graph; stopped = b }) c.follow.new.done) (sym w.stops-is)
+            running = subst (λ (b : Bool). IsRunning (StepsOf c.args.routes.now) (StopsOf c.args.routes.now) (record { seen = c.args.seen.now; graph = c.args.graph.now; stopped = c.args.stopped }) (record { seen = c.follow.new.seen; graph = c.follow.new.graph; stopped = b }) c.follow.new.done) (sym w.stops-is)
                 (further.running (record { seen = c.args.seen.now; graph = c.args.graph.now; stopped = c.args.stopped }) so_far.running);
             count = further.seen_count ∙ so_far.count;
             rest = λ e. absurd (let t = w.fresh-is in cc);
@@ -36,8 +34,8 @@ places-preserved c =
           let same_gap : gap c.follow.new.done ≡ gap c.places.done = ap (λ (xs : List ℕ). gap xs) idle.same_done in
           let most = so_far.most in
           record {
-            running = subst (λ (b : Bool). IsRunning (StepsOf c.args.fabric.now (tables_of c.args.cells.now) (lanes_of c.args.lanes.now) c.args.lanes.now.count c.args.block) (StopsOf c.args.fabric.now (tables_of c.args.cells.now) (lanes_of c.args.lanes.now) c.args.lanes.now.count c.args.block) (record { seen = c.args.seen.now; graph = c.args.graph.now; stopped = c.args.stopped }) (record { seen = c.follow.new.seen; graph = c.follow.new.graph; stopped = b }) c.follow.new.done) (sym w.stops-is)
-                (idle_run (StepsOf c.args.fabric.now (tables_of c.args.cells.now) (lanes_of c.args.lanes.now) c.args.lanes.now.count c.args.block) (StopsOf c.args.fabric.now (tables_of c.args.cells.now) (lanes_of c.args.lanes.now) c.args.lanes.now.count c.args.block) (record { seen = c.args.seen.now; graph = c.args.graph.now; stopped = c.args.stopped }) c.places.place (record { seen = c.places.seen; graph = c.places.graph; stopped = c.places.stops }) (record { seen = c.follow.new.seen; graph = c.follow.new.graph; stopped = c.places.stops }) c.places.done c.follow.new.done idle so_far.running);
+            running = subst (λ (b : Bool). IsRunning (StepsOf c.args.routes.now) (StopsOf c.args.routes.now) (record { seen = c.args.seen.now; graph = c.args.graph.now; stopped = c.args.stopped }) (record { seen = c.follow.new.seen; graph = c.follow.new.graph; stopped = b }) c.follow.new.done) (sym w.stops-is)
+                (idle_run (StepsOf c.args.routes.now) (StopsOf c.args.routes.now) (record { seen = c.args.seen.now; graph = c.args.graph.now; stopped = c.args.stopped }) c.places.place (record { seen = c.places.seen; graph = c.places.graph; stopped = c.places.stops }) (record { seen = c.follow.new.seen; graph = c.follow.new.graph; stopped = c.places.stops }) c.places.done c.follow.new.done idle so_far.running);
             count = ap (λ (s : StateOf). length s.seen) idle.same ∙ so_far.count;
             rest = λ e. idle_rest c.places.place (record { seen = c.places.seen; graph = c.places.graph; stopped = c.places.stops }) (record { seen = c.follow.new.seen; graph = c.follow.new.graph; stopped = c.places.stops }) c.places.done c.follow.new.done idle (so_far.rest (sym w.fresh-is ∙ e));
             most = omega arith;
@@ -46,4 +44,4 @@ places-preserved c =
     ]
 
 pub returns : goal.returns
-returns c = run_done (StepsOf c.args.fabric.now (tables_of c.args.cells.now) (lanes_of c.args.lanes.now) c.args.lanes.now.count c.args.block) (StopsOf c.args.fabric.now (tables_of c.args.cells.now) (lanes_of c.args.lanes.now) c.args.lanes.now.count c.args.block) (record { seen = c.args.seen.now; graph = c.args.graph.now; stopped = c.args.stopped }) (record { seen = c.rounds.seen; graph = c.rounds.graph; stopped = c.rounds.stops }) c.rounds.done c.rounds.invariant.running (c.rounds.invariant.rest c.rounds-test.false)
+returns c = run_done (StepsOf c.args.routes.now) (StopsOf c.args.routes.now) (record { seen = c.args.seen.now; graph = c.args.graph.now; stopped = c.args.stopped }) (record { seen = c.rounds.seen; graph = c.rounds.graph; stopped = c.rounds.stops }) c.rounds.done c.rounds.invariant.running (c.rounds.invariant.rest c.rounds-test.false)

@@ -1,6 +1,4 @@
 use Rattle.std.proofs.Common.{◌≡◌, ◌<◌, ◌≤◌, ◌+◌, ℕ, length, true, false, cond}
-use Rattle.ib_cells.specs.Cells.{tables_of}
-use Rattle.ib_rows.specs.Lanes.{lanes_of}
 use Rattle.ib_routes.specs.Waves.{HasBit, gap}
 use Rattle.ib_lane_waves.specs.LaneSteps.{StepsOf, StopsOf}
 use Rattle.ib_lane_waves.specs.Waves.{IsRunning}
@@ -9,7 +7,7 @@ use Rattle.ib_lane_waves.proofs.wave.run.Given as goal
 -- if nothing was fresh in a round, all is done
 abbrev pub invariant-rounds : goal.invariant-rounds
 invariant-rounds l = record {
-  running : IsRunning (StepsOf l.fabric (tables_of l.cells) (lanes_of l.lanes) l.lanes.count l.block) (StopsOf l.fabric (tables_of l.cells) (lanes_of l.lanes) l.lanes.count l.block) (record { seen = l.fn.seen; graph = l.fn.graph; stopped = l.stopped }) (record { seen = l.seen; graph = l.graph; stopped = l.stops }) l.done;
+  running : IsRunning (StepsOf l.routes) (StopsOf l.routes) (record { seen = l.fn.seen; graph = l.fn.graph; stopped = l.stopped }) (record { seen = l.seen; graph = l.graph; stopped = l.stops }) l.done;
   count : length l.seen ≡ length l.fn.seen;
   rest : l.fresh ≡ false → (place bit : ℕ) → place < length l.seen → HasBit l.seen place bit → HasBit l.done place bit;
 }
@@ -20,7 +18,7 @@ decreases-rounds l = cond l.fresh (gap l.done + 1) 0
 -- the same of the places so far
 abbrev pub invariant-places : goal.invariant-places
 invariant-places l = record {
-  running : IsRunning (StepsOf l.fabric (tables_of l.cells) (lanes_of l.lanes) l.lanes.count l.block) (StopsOf l.fabric (tables_of l.cells) (lanes_of l.lanes) l.lanes.count l.block) (record { seen = l.fn.seen; graph = l.fn.graph; stopped = l.stopped }) (record { seen = l.seen; graph = l.graph; stopped = l.stops }) l.done;
+  running : IsRunning (StepsOf l.routes) (StopsOf l.routes) (record { seen = l.fn.seen; graph = l.fn.graph; stopped = l.stopped }) (record { seen = l.seen; graph = l.graph; stopped = l.stops }) l.done;
   count : length l.seen ≡ length l.fn.seen;
   rest : l.fresh ≡ false → (place bit : ℕ) → place < l.place → HasBit l.seen place bit → HasBit l.done place bit;
   most : gap l.done ≤ gap l.initial.done;

@@ -1,7 +1,5 @@
 use Rattle.std.proofs.Common.{◌≡◌, ◌<◌, length, length-set, arith}
 use Rattle.std.specs.Int.{bit_at}
-use Rattle.ib_cells.specs.Cells.{tables_of}
-use Rattle.ib_rows.specs.Lanes.{lanes_of}
 use Rattle.ib_routes.specs.Waves.{HasBit}
 use Rattle.ib_routes.proofs.WordLemmas.{bit_low, done_more, gap_less}
 use Rattle.ib_lane_waves.specs.LaneSteps.{StepsOf, StopsOf}
@@ -14,11 +12,8 @@ returns c =
     let at = c.args.place in
     let word = c.joined.result in
     let low : c.args.place < length c.args.done.now = omega arith in
-    let f = c.args.fabric.now in
-    let t = tables_of c.args.cells.now in
-    let v = lanes_of c.args.lanes.now in
     record {
-      taken = taken_as (StepsOf c.args.fabric.now (tables_of c.args.cells.now) (lanes_of c.args.lanes.now) c.args.lanes.now.count c.args.block) (StopsOf c.args.fabric.now (tables_of c.args.cells.now) (lanes_of c.args.lanes.now) c.args.lanes.now.count c.args.block) (λ switch other. (switch ≡ c.args.place) × (bit_at c.fresh_of-fresh.result other ≡ 1)) (λ switch bit. (switch ≡ c.args.place) × HasBit c.args.seen.now c.args.place bit × (HasBit c.args.done.now c.args.place bit → ⊥))
+      taken = taken_as (StepsOf c.args.routes.now) (StopsOf c.args.routes.now) (λ switch other. (switch ≡ c.args.place) × (bit_at c.fresh_of-fresh.result other ≡ 1)) (λ switch bit. (switch ≡ c.args.place) × HasBit c.args.seen.now c.args.place bit × (HasBit c.args.done.now c.args.place bit → ⊥))
           (record { seen = c.args.seen.now; graph = c.args.graph.now; stopped = c.args.stopped }) (record { seen = c.visit.new.seen; graph = c.visit.new.graph; stopped = c.visit.result })
           (λ s o r. (r.0, (c.fresh_of-fresh.ensures o).1 (r.1, r.2)))
           (λ s o p. let both = (c.fresh_of-fresh.ensures o).0 p.1 in (p.0, both.0, both.1))

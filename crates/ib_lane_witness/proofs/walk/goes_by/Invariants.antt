@@ -12,8 +12,8 @@ use Rattle.ib_lane_witness.proofs.walk.goes_by.Given as goal
 abbrev pub invariant-hops : goal.invariant-hops
 invariant-hops l =
     record {
-      low : l.at.switch < switch_count l.fabric;
-      followed : IsFollowed (lane_hop l.fabric (tables_of l.cells) (lanes_of l.lanes) l.level l.lid) (lane_channel_of l.channel) l.fn.start l.at l.marks;
+      low : l.at.switch < switch_count l.routing.fabric.now;
+      followed : IsFollowed (lane_hop l.routing.fabric.now (tables_of l.routing.cells.now) (lanes_of l.routing.lanes.now) l.level l.lid) (lane_channel_of l.channel) l.fn.start l.at l.marks;
     }
 
 abbrev pub decreases-hops : goal.decreases-hops

@@ -16,11 +16,11 @@ lids-init c = λ other low. absurd (omega arith)
 pub lids-preserved : goal.lids-preserved
 lids-preserved c = λ other low. elim (cases_eq other c.lids.lid) [
   | inr before ↦ c.lids.invariant other (omega arith)
-  | inl same ↦ subst (λ (d : ℕ). (source : EndPort) → Takes c.args.fabric.now (tables_of c.args.cells.now) (lanes_of c.args.lanes.now) c.args.traffic (levels_of c.args.levels.now) d (lane_channel_of c.args.channel) (lane_channel_of c.args.next) source → ⊥) (sym same) (rw c.in_default.is at c.in_ok-found.ensures)
+  | inl same ↦ subst (λ (d : ℕ). (source : EndPort) → Takes c.args.routing.now.fabric.now (tables_of c.args.routing.now.cells.now) (lanes_of c.args.routing.now.lanes.now) c.args.routing.now.traffic (levels_of c.args.routing.now.levels.now) d (lane_channel_of c.args.channel) (lane_channel_of c.args.next) source → ⊥) (sym same) (rw c.in_default.is at c.in_ok-found.ensures)
 ]
 
 pub returns-in-Some : goal.returns-in-Some
-returns-in-Some c = least_witness c.args.fabric.now (tables_of c.args.cells.now) (lanes_of c.args.lanes.now) c.args.traffic (levels_of c.args.levels.now) c.lids.lid (lane_channel_of c.args.channel) (lane_channel_of c.args.next) c.in-Some.source c.in-Some.level c.lids.invariant (rw c.in-Some.is at c.in_ok-found.ensures)
+returns-in-Some c = least_witness c.args.routing.now.fabric.now (tables_of c.args.routing.now.cells.now) (lanes_of c.args.routing.now.lanes.now) c.args.routing.now.traffic (levels_of c.args.routing.now.levels.now) c.lids.lid (lane_channel_of c.args.channel) (lane_channel_of c.args.next) c.in-Some.source c.in-Some.level c.lids.invariant (rw c.in-Some.is at c.in_ok-found.ensures)
 
 pub returns : goal.returns
-returns c = λ lid source level takes. c.lids.invariant lid (let low = owned_low c.args.fabric.now c.args.traffic lid source takes.comes.sends.sends in omega arith) source (level, takes)
+returns c = λ lid source level takes. c.lids.invariant lid (let low = owned_low c.args.routing.now.fabric.now c.args.routing.now.traffic lid source takes.comes.sends.sends in omega arith) source (level, takes)

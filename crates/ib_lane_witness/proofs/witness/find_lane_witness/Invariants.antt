@@ -9,4 +9,4 @@ use Rattle.ib_lane_witness.proofs.witness.find_lane_witness.Given as goal
 
 -- no route to a LID so far takes the two
 abbrev pub invariant-lids : goal.invariant-lids
-invariant-lids l = (other : ℕ) → other < l.lid → (source : EndPort) → Takes l.fabric (tables_of l.cells) (lanes_of l.lanes) l.traffic (levels_of l.levels) other (lane_channel_of l.channel) (lane_channel_of l.next) source → ⊥
+invariant-lids l = (other : ℕ) → other < l.lid → (source : EndPort) → Takes l.routing.fabric.now (tables_of l.routing.cells.now) (lanes_of l.routing.lanes.now) l.routing.traffic (levels_of l.routing.levels.now) other (lane_channel_of l.channel) (lane_channel_of l.next) source → ⊥

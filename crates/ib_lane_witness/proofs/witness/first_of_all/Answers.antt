@@ -6,12 +6,12 @@ use Rattle.ib_lane_witness.proofs.TakeLemmas.{first_takes}
 use Rattle.ib_lane_witness.proofs.witness.first_of_all.Goals as goal
 
 pub returns-in_err-source : goal.returns-in_err-source
-returns-in_err-source c = rw c.from_residual.ensures (rw c.in_err-source.was at (first_takes c.args.fabric.now (tables_of c.args.cells.now) (lanes_of c.args.lanes.now) c.args.sought.lid c.args.traffic (levels_of c.args.levels.now) (lane_channel_of c.args.sought.channel) (lane_channel_of c.args.sought.next) c.requires.fabric c.first_of_kind-host.result c.first_of_kind-switch.result c.lesser.result c.first_of_kind-host.ensures.first c.first_of_kind-switch.ensures.first c.lesser.ensures))
+returns-in_err-source c = rw c.from_residual.ensures (rw c.in_err-source.was at (first_takes c.args.routing.now.fabric.now (tables_of c.args.routing.now.cells.now) (lanes_of c.args.routing.now.lanes.now) c.args.sought.lid c.args.routing.now.traffic (levels_of c.args.routing.now.levels.now) (lane_channel_of c.args.sought.channel) (lane_channel_of c.args.sought.next) c.requires.fabric c.first_of_kind-host.result c.first_of_kind-switch.result c.lesser.result c.first_of_kind-host.ensures.first c.first_of_kind-switch.ensures.first c.lesser.ensures))
 
 pub returns-in_err-level : goal.returns-in_err-level
 returns-in_err-level c =
-    let first = rw c.in_ok-source.was at (first_takes c.args.fabric.now (tables_of c.args.cells.now) (lanes_of c.args.lanes.now) c.args.sought.lid c.args.traffic (levels_of c.args.levels.now) (lane_channel_of c.args.sought.channel) (lane_channel_of c.args.sought.next) c.requires.fabric c.first_of_kind-host.result c.first_of_kind-switch.result c.lesser.result c.first_of_kind-host.ensures.first c.first_of_kind-switch.ensures.first c.lesser.ensures) in
+    let first = rw c.in_ok-source.was at (first_takes c.args.routing.now.fabric.now (tables_of c.args.routing.now.cells.now) (lanes_of c.args.routing.now.lanes.now) c.args.sought.lid c.args.routing.now.traffic (levels_of c.args.routing.now.levels.now) (lane_channel_of c.args.sought.channel) (lane_channel_of c.args.sought.next) c.requires.fabric c.first_of_kind-host.result c.first_of_kind-switch.result c.lesser.result c.first_of_kind-host.ensures.first c.first_of_kind-switch.ensures.first c.lesser.ensures) in
     absurd ((rw c.in_err-level.was at c.least_level.ensures.level) first.is)
 
 pub returns : goal.returns
-returns c = record { first = rw c.in_ok-source.was at (first_takes c.args.fabric.now (tables_of c.args.cells.now) (lanes_of c.args.lanes.now) c.args.sought.lid c.args.traffic (levels_of c.args.levels.now) (lane_channel_of c.args.sought.channel) (lane_channel_of c.args.sought.next) c.requires.fabric c.first_of_kind-host.result c.first_of_kind-switch.result c.lesser.result c.first_of_kind-host.ensures.first c.first_of_kind-switch.ensures.first c.lesser.ensures); lowest = rw c.in_ok-level.was at c.least_level.ensures.level }
+returns c = record { first = rw c.in_ok-source.was at (first_takes c.args.routing.now.fabric.now (tables_of c.args.routing.now.cells.now) (lanes_of c.args.routing.now.lanes.now) c.args.sought.lid c.args.routing.now.traffic (levels_of c.args.routing.now.levels.now) (lane_channel_of c.args.sought.channel) (lane_channel_of c.args.sought.next) c.requires.fabric c.first_of_kind-host.result c.first_of_kind-switch.result c.lesser.result c.first_of_kind-host.ensures.first c.first_of_kind-switch.ensures.first c.lesser.ensures); lowest = rw c.in_ok-level.was at c.least_level.ensures.level }

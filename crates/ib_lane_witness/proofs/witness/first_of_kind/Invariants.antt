@@ -9,6 +9,6 @@ use Rattle.ib_lane_witness.proofs.witness.first_of_kind.Given as goal
 abbrev pub invariant-places : goal.invariant-places
 invariant-places l =
     record {
-      ready : IsReadyFor l.fabric (tables_of l.cells) l.sought l.marks;
-      none : (other : ℕ) → other < l.place → TakesAs l.fabric (tables_of l.cells) (lanes_of l.lanes) l.traffic (levels_of l.levels) l.sought (end_at l.kind other) → ⊥;
+      ready : IsReadyFor l.routing.fabric.now (tables_of l.routing.cells.now) l.sought l.marks;
+      none : (other : ℕ) → other < l.place → TakesAs l.routing.fabric.now (tables_of l.routing.cells.now) (lanes_of l.routing.lanes.now) l.routing.traffic (levels_of l.routing.levels.now) l.sought (end_at l.kind other) → ⊥;
     }

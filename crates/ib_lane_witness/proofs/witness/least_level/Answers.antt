@@ -17,26 +17,26 @@ pub levels-preserved : goal.levels-preserved
 levels-preserved c = λ other low takes. elim (cases_eq other c.levels.level) [
   | inr before ↦ c.levels.invariant other (omega arith) takes
   | inl same ↦ absurd (
-      let here = subst (λ (level : ℕ). LaneTakes c.args.fabric.now (tables_of c.args.cells.now) (lanes_of c.args.lanes.now) c.args.traffic (levels_of c.args.levels.now) c.args.sought.lid c.args.source level (lane_channel_of c.args.sought.channel) (lane_channel_of c.args.sought.next)) same takes in
+      let here = subst (λ (level : ℕ). LaneTakes c.args.routing.now.fabric.now (tables_of c.args.routing.now.cells.now) (lanes_of c.args.routing.now.lanes.now) c.args.routing.now.traffic (levels_of c.args.routing.now.levels.now) c.args.sought.lid c.args.source level (lane_channel_of c.args.sought.channel) (lane_channel_of c.args.sought.next)) same takes in
       iff_false c.goes_with.ensures c.if-goes_with.false (
         subst (λ (n : ℕ). bit_at n c.levels.level ≡ 1) (sym (c.from-with.ensures ∙ c.levels-2.ensures)) here.comes.sends.has.1,
-        (c.requires.on c.levels.level here.comes.sends.has.0).1 (on_of c.args.fabric.now (tables_of c.args.cells.now) (lanes_of c.args.lanes.now) c.args.sought.lid c.args.traffic (levels_of c.args.levels.now) (lane_channel_of c.args.sought.channel) (lane_channel_of c.args.sought.next) c.args.source c.levels.level here),
-        goes_of c.args.fabric.now (tables_of c.args.cells.now) (lanes_of c.args.lanes.now) c.args.sought.lid c.args.traffic (levels_of c.args.levels.now) (lane_channel_of c.args.sought.channel) (lane_channel_of c.args.sought.next) c.args.source c.levels.level c.in_ok-start.start (sym c.begin_at.ensures.begin ∙ c.in_ok-start.was) here,
+        (c.requires.on c.levels.level here.comes.sends.has.0).1 (on_of c.args.routing.now.fabric.now (tables_of c.args.routing.now.cells.now) (lanes_of c.args.routing.now.lanes.now) c.args.sought.lid c.args.routing.now.traffic (levels_of c.args.routing.now.levels.now) (lane_channel_of c.args.sought.channel) (lane_channel_of c.args.sought.next) c.args.source c.levels.level here),
+        goes_of c.args.routing.now.fabric.now (tables_of c.args.routing.now.cells.now) (lanes_of c.args.routing.now.lanes.now) c.args.sought.lid c.args.routing.now.traffic (levels_of c.args.routing.now.levels.now) (lane_channel_of c.args.sought.channel) (lane_channel_of c.args.sought.next) c.args.source c.levels.level c.in_ok-start.start (sym c.begin_at.ensures.begin ∙ c.in_ok-start.was) here,
       ))
 ]
 
 pub goes_with-requires-clause-start : goal.goes_with-requires-clause-start
-goes_with-requires-clause-start c = let comes = c.comes.ensures.comes.0 c.if-not-comes.false in rw c.in_ok-start.was at c.begin_at.ensures.within c.args.traffic comes.sends.is_source
+goes_with-requires-clause-start c = let comes = c.comes.ensures.comes.0 c.if-not-comes.false in rw c.in_ok-start.was at c.begin_at.ensures.within c.args.routing.now.traffic comes.sends.is_source
 
 pub returns-then-not-comes-clause-level : goal.returns-then-not-comes-clause-level
-returns-then-not-comes-clause-level c = λ (level, takes). absurd (iff_false c.comes.ensures.comes c.if-not-comes.true (takes_one c.args.fabric.now (tables_of c.args.cells.now) (lanes_of c.args.lanes.now) c.args.traffic (levels_of c.args.levels.now) c.args.sought.lid c.args.source level (lane_channel_of c.args.sought.channel) (lane_channel_of c.args.sought.next) takes).comes)
+returns-then-not-comes-clause-level c = λ (level, takes). absurd (iff_false c.comes.ensures.comes c.if-not-comes.true (takes_one c.args.routing.now.fabric.now (tables_of c.args.routing.now.cells.now) (lanes_of c.args.routing.now.lanes.now) c.args.routing.now.traffic (levels_of c.args.routing.now.levels.now) c.args.sought.lid c.args.source level (lane_channel_of c.args.sought.channel) (lane_channel_of c.args.sought.next) takes).comes)
 
 pub returns-then-goes_with-clause-level : goal.returns-then-goes_with-clause-level
 returns-then-goes_with-clause-level c =
     let (has, on, goes) = c.goes_with.ensures.0 c.if-goes_with.true in
     let comes = c.comes.ensures.comes.0 c.if-not-comes.false in
     record {
-      is = takes_of c.args.fabric.now (tables_of c.args.cells.now) (lanes_of c.args.lanes.now) c.args.sought.lid c.args.traffic (levels_of c.args.levels.now) (lane_channel_of c.args.sought.channel) (lane_channel_of c.args.sought.next) c.args.source c.levels.level c.in_ok-start.start (record { sends = comes.sends; has = ((omega arith), subst (λ (n : ℕ). bit_at n c.levels.level ≡ 1) (c.from-with.ensures ∙ c.levels-2.ensures) has) }) (sym c.begin_at.ensures.begin ∙ c.in_ok-start.was) goes ((c.requires.on c.levels.level (omega arith)).0 on);
+      is = takes_of c.args.routing.now.fabric.now (tables_of c.args.routing.now.cells.now) (lanes_of c.args.routing.now.lanes.now) c.args.sought.lid c.args.routing.now.traffic (levels_of c.args.routing.now.levels.now) (lane_channel_of c.args.sought.channel) (lane_channel_of c.args.sought.next) c.args.source c.levels.level c.in_ok-start.start (record { sends = comes.sends; has = ((omega arith), subst (λ (n : ℕ). bit_at n c.levels.level ≡ 1) (c.from-with.ensures ∙ c.levels-2.ensures) has) }) (sym c.begin_at.ensures.begin ∙ c.in_ok-start.was) goes ((c.requires.on c.levels.level (omega arith)).0 on);
       first = c.levels.invariant;
     }
 

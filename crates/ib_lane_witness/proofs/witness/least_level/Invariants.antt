@@ -8,4 +8,4 @@ use Rattle.ib_lane_witness.proofs.witness.least_level.Given as goal
 
 -- none of those so far
 abbrev pub invariant-levels : goal.invariant-levels
-invariant-levels l = (other : ℕ) → other < l.level → LaneTakes l.fabric (tables_of l.cells) (lanes_of l.lanes) l.fn.traffic (levels_of l.levels) l.sought.lid l.fn.source other (lane_channel_of l.sought.channel) (lane_channel_of l.sought.next) → ⊥
+invariant-levels l = (other : ℕ) → other < l.level → LaneTakes l.routing.fabric.now (tables_of l.routing.cells.now) (lanes_of l.routing.lanes.now) l.routing.traffic (levels_of l.routing.levels.now) l.sought.lid l.fn.source other (lane_channel_of l.sought.channel) (lane_channel_of l.sought.next) → ⊥

@@ -10,26 +10,26 @@ use Rattle.ib_lane_witness.proofs.witness.levels_on.Goals as goal
 use Rattle.ib_lane_witness.proofs.witness.levels_on.Goals.{then-is_by, else-is_by}
 
 pub levels-init : goal.levels-init
-levels-init c = below_none (λ level. GoesOn c.args.fabric.now (tables_of c.args.cells.now) (lanes_of c.args.lanes.now) c.args.lid level (lane_channel_of c.args.channel) (lane_channel_of c.args.next))
+levels-init c = below_none (λ level. GoesOn c.args.routing.now.fabric.now (tables_of c.args.routing.now.cells.now) (lanes_of c.args.routing.now.lanes.now) c.args.lid level (lane_channel_of c.args.channel) (lane_channel_of c.args.next))
 
 pub levels-preserved : goal.levels-preserved
 levels-preserved c =
-    let Is = λ (level : ℕ). GoesOn c.args.fabric.now (tables_of c.args.cells.now) (lanes_of c.args.lanes.now) c.args.lid level (lane_channel_of c.args.channel) (lane_channel_of c.args.next) in
+    let Is = λ (level : ℕ). GoesOn c.args.routing.now.fabric.now (tables_of c.args.routing.now.cells.now) (lanes_of c.args.routing.now.lanes.now) c.args.lid level (lane_channel_of c.args.channel) (lane_channel_of c.args.next) in
     elim c.if-is_by.branch [
       | then-is_by w ↦ (
           let (after, by) = c.is_by.ensures.0 w.if-is_by.true in
-          let on = goes_on c.args.fabric.now (tables_of c.args.cells.now) (lanes_of c.args.lanes.now) c.args.lid (lane_channel_of c.args.channel) (lane_channel_of c.args.next) c.levels.level c.in-Some.spot c.in-Some.ensures.way c.if-spot-next.false (after, sym c.lane_hop_at.ensures.hop ∙ by) in
+          let on = goes_on c.args.routing.now.fabric.now (tables_of c.args.routing.now.cells.now) (lanes_of c.args.routing.now.lanes.now) c.args.lid (lane_channel_of c.args.channel) (lane_channel_of c.args.next) c.levels.level c.in-Some.spot c.in-Some.ensures.way c.if-spot-next.false (after, sym c.lane_hop_at.ensures.hop ∙ by) in
           subst (λ (n : ℕ). AreBelow Is (c.levels.level + 1) n) (sym w.word-is) (below_with Is c.levels.level c.levels.word w.with_bit-word.result c.levels.invariant on w.with_bit-word.ensures))
       | else-is_by w ↦ subst (λ (n : ℕ). AreBelow Is (c.levels.level + 1) n) (sym w.word-is) (below_without Is c.levels.level c.levels.word c.levels.invariant (λ on.
-          (let (same, from) = on_here c.args.fabric.now (tables_of c.args.cells.now) (lanes_of c.args.lanes.now) c.args.lid (lane_channel_of c.args.channel) (lane_channel_of c.args.next) c.levels.level c.in-Some.spot c.in-Some.ensures.way on in
+          (let (same, from) = on_here c.args.routing.now.fabric.now (tables_of c.args.routing.now.cells.now) (lanes_of c.args.routing.now.lanes.now) c.args.lid (lane_channel_of c.args.channel) (lane_channel_of c.args.next) c.levels.level c.in-Some.spot c.in-Some.ensures.way on in
           iff_false c.is_by.ensures w.if-is_by.false (from.0, c.lane_hop_at.ensures.hop ∙ from.1))))
     ]
 
 pub returns-in_default : goal.returns-in_default
-returns-in_default c = none_on c.args.fabric.now (tables_of c.args.cells.now) (lanes_of c.args.lanes.now) c.args.lid (lane_channel_of c.args.channel) (lane_channel_of c.args.next) (λ level on. (let there : Spot = record { switch = c.args.next.switch; port = on.entry } in c.in_default.ensures.way there on.leads))
+returns-in_default c = none_on c.args.routing.now.fabric.now (tables_of c.args.routing.now.cells.now) (lanes_of c.args.routing.now.lanes.now) c.args.lid (lane_channel_of c.args.channel) (lane_channel_of c.args.next) (λ level on. (let there : Spot = record { switch = c.args.next.switch; port = on.entry } in c.in_default.ensures.way there on.leads))
 
 pub returns-then-spot-next : goal.returns-then-spot-next
-returns-then-spot-next c = none_on c.args.fabric.now (tables_of c.args.cells.now) (lanes_of c.args.lanes.now) c.args.lid (lane_channel_of c.args.channel) (lane_channel_of c.args.next) (λ level on. c.if-spot-next.true (on_here c.args.fabric.now (tables_of c.args.cells.now) (lanes_of c.args.lanes.now) c.args.lid (lane_channel_of c.args.channel) (lane_channel_of c.args.next) level c.in-Some.spot c.in-Some.ensures.way on).0)
+returns-then-spot-next c = none_on c.args.routing.now.fabric.now (tables_of c.args.routing.now.cells.now) (lanes_of c.args.routing.now.lanes.now) c.args.lid (lane_channel_of c.args.channel) (lane_channel_of c.args.next) (λ level on. c.if-spot-next.true (on_here c.args.routing.now.fabric.now (tables_of c.args.routing.now.cells.now) (lanes_of c.args.routing.now.lanes.now) c.args.lid (lane_channel_of c.args.channel) (lane_channel_of c.args.next) level c.in-Some.spot c.in-Some.ensures.way on).0)
 
 pub returns : goal.returns
-returns c = below_all (λ level. GoesOn c.args.fabric.now (tables_of c.args.cells.now) (lanes_of c.args.lanes.now) c.args.lid level (lane_channel_of c.args.channel) (lane_channel_of c.args.next)) c.levels.level c.levels.word (omega arith) c.levels.invariant
+returns c = below_all (λ level. GoesOn c.args.routing.now.fabric.now (tables_of c.args.routing.now.cells.now) (lanes_of c.args.routing.now.lanes.now) c.args.lid level (lane_channel_of c.args.channel) (lane_channel_of c.args.next)) c.levels.level c.levels.word (omega arith) c.levels.invariant

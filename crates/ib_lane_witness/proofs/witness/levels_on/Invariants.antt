@@ -7,4 +7,4 @@ use Rattle.ib_lane_witness.proofs.witness.levels_on.Given as goal
 
 -- the levels so far
 abbrev pub invariant-levels : goal.invariant-levels
-invariant-levels l = AreBelow (λ level. GoesOn l.fabric (tables_of l.cells) (lanes_of l.lanes) l.lid level (lane_channel_of l.fn.channel) (lane_channel_of l.next)) l.level l.word
+invariant-levels l = AreBelow (λ level. GoesOn l.routing.fabric.now (tables_of l.routing.cells.now) (lanes_of l.routing.lanes.now) l.lid level (lane_channel_of l.fn.channel) (lane_channel_of l.next)) l.level l.word

@@ -14,7 +14,7 @@ returns-then-not-is_target c = λ source (level, takes). absurd (let sends = tak
 
 pub returns-then-on-eq0 : goal.returns-then-on-eq0
 returns-then-on-eq0 c = λ source (level, takes). absurd (
-    let has = (c.levels_on-on.ensures level takes.comes.sends.has.0).1 (on_of c.args.fabric.now (tables_of c.args.cells.now) (lanes_of c.args.lanes.now) c.args.lid c.args.traffic (levels_of c.args.levels.now) (lane_channel_of c.args.channel) (lane_channel_of c.args.next) source level takes) in
+    let has = (c.levels_on-on.ensures level takes.comes.sends.has.0).1 (on_of c.args.routing.now.fabric.now (tables_of c.args.routing.now.cells.now) (lanes_of c.args.routing.now.lanes.now) c.args.lid c.args.routing.now.traffic (levels_of c.args.routing.now.levels.now) (lane_channel_of c.args.channel) (lane_channel_of c.args.next) source level takes) in
     let none = bit_at-zero level in
     let zero : bit_at c.levels_on-on.result level ≡ bit_at 0 level = ap (λ (n : ℕ). bit_at n level) c.if-on-eq0.true in
     omega arith)

@@ -2,13 +2,14 @@ use Rattle.std.proofs.Common.{sym}
 use Rattle.ib_cells.specs.Cells.{tables_of}
 use Rattle.ib_lane_counts.proofs.StepLemmas.{not_arrived, one_arrives, one_lost}
 use Rattle.ib_rows.specs.Lanes.{lanes_of}
+use Rattle.ib_rows.specs.Levels.{levels_of}
 use Rattle.ib_lane_counts.proofs.counts.LaneCounts.add.Goals as goal
 
 pub returns-in-Arrives-clause-counts : goal.returns-in-Arrives-clause-counts
-returns-in-Arrives-clause-counts c = λ traffic levels sends ends are. one_arrives c.args.fabric.now (tables_of c.args.cells.now) (lanes_of c.args.lanes.now) traffic levels c.args.route.lid c.args.route.source c.args.route.level sends c.args.route.start c.requires.begins c.args.outcome ends c.in-Arrives.switches c.max-self.result c.args.self.now c.in-Arrives.is c.max-self.ensures are
+returns-in-Arrives-clause-counts c = λ sends ends are. one_arrives c.args.routing.now.fabric.now (tables_of c.args.routing.now.cells.now) (lanes_of c.args.routing.now.lanes.now) c.args.routing.now.traffic (levels_of c.args.routing.now.levels.now) c.args.route.lid c.args.route.source c.args.route.level sends c.args.route.start c.requires.begins c.args.outcome ends c.in-Arrives.switches c.max-self.result c.args.self.now c.in-Arrives.is c.max-self.ensures are
 
 pub add-requires-clause-lost : goal.add-requires-clause-lost
 add-requires-clause-lost c = not_arrived c.args.outcome c.in_default.not-Arrives
 
 pub returns-in_default-clause-counts : goal.returns-in_default-clause-counts
-returns-in_default-clause-counts c = λ traffic levels sends ends are. one_lost c.args.fabric.now (tables_of c.args.cells.now) (lanes_of c.args.lanes.now) traffic levels c.args.route.lid c.args.route.source c.args.route.level sends c.args.route.start c.requires.begins c.args.outcome ends c.args.self.now c.add.new.self (λ switches e. c.in_default.not-Arrives switches (sym e)) c.add.ensures.sum (c.add.ensures.losses traffic levels sends ends are.lost) are
+returns-in_default-clause-counts c = λ sends ends are. one_lost c.args.routing.now.fabric.now (tables_of c.args.routing.now.cells.now) (lanes_of c.args.routing.now.lanes.now) c.args.routing.now.traffic (levels_of c.args.routing.now.levels.now) c.args.route.lid c.args.route.source c.args.route.level sends c.args.route.start c.requires.begins c.args.outcome ends c.args.self.now c.add.new.self (λ switches e. c.in_default.not-Arrives switches (sym e)) c.add.ensures.sum (c.add.ensures.losses sends ends are.lost) are

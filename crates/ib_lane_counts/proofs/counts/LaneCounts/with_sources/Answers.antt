@@ -7,13 +7,13 @@ use Rattle.ib_rows.specs.Levels.{levels_of}
 use Rattle.ib_lane_counts.proofs.counts.LaneCounts.with_sources.Goals as goal
 
 pub add_source-requires-clause-counts : goal.add_source-requires-clause-counts
-add_source-requires-clause-counts c = subst (λ (n : ℕ). AreCountsUntil c.args.fabric.now (tables_of c.args.cells.now) (lanes_of c.args.lanes.now) c.args.traffic (levels_of c.args.levels.now) c.args.lid n 0 c.places.counts) (sym c.end_port_at-source.ensures.place) c.places.invariant.counts
+add_source-requires-clause-counts c = subst (λ (n : ℕ). AreCountsUntil c.args.routing.now.fabric.now (tables_of c.args.routing.now.cells.now) (lanes_of c.args.routing.now.lanes.now) c.args.routing.now.traffic (levels_of c.args.routing.now.levels.now) c.args.lid n 0 c.places.counts) (sym c.end_port_at-source.ensures.place) c.places.invariant.counts
 
 pub places-preserved : goal.places-preserved
 places-preserved c = record {
   ready = c.add_source.ensures.ready;
-  counts = subst (λ (n : ℕ). AreCountsUntil c.args.fabric.now (tables_of c.args.cells.now) (lanes_of c.args.lanes.now) c.args.traffic (levels_of c.args.levels.now) c.args.lid (n + 1) 0 c.add_source.new.self) c.end_port_at-source.ensures.place c.add_source.ensures.counts;
+  counts = subst (λ (n : ℕ). AreCountsUntil c.args.routing.now.fabric.now (tables_of c.args.routing.now.cells.now) (lanes_of c.args.routing.now.lanes.now) c.args.routing.now.traffic (levels_of c.args.routing.now.levels.now) c.args.lid (n + 1) 0 c.add_source.new.self) c.end_port_at-source.ensures.place c.add_source.ensures.counts;
 }
 
 pub returns-clause-counts : goal.returns-clause-counts
-returns-clause-counts c = next_counts c.args.fabric.now (tables_of c.args.cells.now) (lanes_of c.args.lanes.now) c.args.traffic (levels_of c.args.levels.now) c.args.lid c.places.counts c.places.place (omega arith) (omega arith) c.places.invariant.counts
+returns-clause-counts c = next_counts c.args.routing.now.fabric.now (tables_of c.args.routing.now.cells.now) (lanes_of c.args.routing.now.lanes.now) c.args.routing.now.traffic (levels_of c.args.routing.now.levels.now) c.args.lid c.places.counts c.places.place (omega arith) (omega arith) c.places.invariant.counts

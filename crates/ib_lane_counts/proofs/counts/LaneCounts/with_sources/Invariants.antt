@@ -8,6 +8,6 @@ use Rattle.ib_lane_counts.proofs.counts.LaneCounts.with_sources.Given as goal
 -- the counts with the end ports so far
 abbrev pub invariant-places : goal.invariant-places
 invariant-places l = record {
-  ready : AreReady l.fabric (tables_of l.cells) (lanes_of l.lanes) l.lid l.rooms;
-  counts : AreCountsUntil l.fabric (tables_of l.cells) (lanes_of l.lanes) l.traffic (levels_of l.levels) l.lid l.place 0 l.counts;
+  ready : AreReady l.routing.fabric.now (tables_of l.routing.cells.now) (lanes_of l.routing.lanes.now) l.lid l.rooms;
+  counts : AreCountsUntil l.routing.fabric.now (tables_of l.routing.cells.now) (lanes_of l.routing.lanes.now) l.routing.traffic (levels_of l.routing.levels.now) l.lid l.place 0 l.counts;
 }
