@@ -59,16 +59,16 @@ pub fn fat_tree(k: usize, per_leaf: usize) -> Fabric {
             if lid > 49151 {
                 break;
             }
-            f.attach(host_guid(lid), lid as u16, 0, l, (1 + h) as u8);
+            f.attach(Host { guid: host_guid(lid), lid: lid as u16, lmc: 0, switch: l, port: (1 + h) as u8 });
             lid += 1;
         }
     }
     f.make_tables();
-    let w = f.most_lid + 1;
+    let w = f.lids;
     // to (leaf index, port at the leaf, number for the spreading)
     let mut to_leaf: Vec<(usize, usize, u8, usize)> = (0..leaves).map(|l| (l + 1, l, 0u8, l)).collect();
     for (i, h) in f.hosts.iter().enumerate() {
-        to_leaf.push((h.lid as usize, h.at as usize, h.port, i));
+        to_leaf.push((h.lid as usize, h.switch, h.port, i));
     }
     for (d, l, port, x) in to_leaf {
         let (pod, i) = (l / m, l % m);
@@ -151,16 +151,22 @@ pub fn torus(x: usize, y: usize, z: usize, hosts: usize, mesh: bool) -> Fabric {
     for s in 0..n {
         for h in 0..hosts {
             if lid <= 49151 {
-                f.attach(host_guid(lid), lid as u16, 0, s, (7 + h) as u8);
+                f.attach(Host {
+                    guid: host_guid(lid),
+                    lid: lid as u16,
+                    lmc: 0,
+                    switch: s,
+                    port: (7 + h) as u8,
+                });
                 lid += 1;
             }
         }
     }
     f.make_tables();
-    let w = f.most_lid + 1;
+    let w = f.lids;
     let mut to: Vec<(usize, usize, u8)> = (0..n).map(|s| (s + 1, s, 0u8)).collect();
     for h in &f.hosts {
-        to.push((h.lid as usize, h.at as usize, h.port));
+        to.push((h.lid as usize, h.switch, h.port));
     }
     for (d, t, port) in to {
         let tc = of(t);
@@ -209,7 +215,13 @@ fn regular(n: usize, degree: usize, hosts: usize, seed: u64) -> Fabric {
     for s in 0..n {
         for h in 0..hosts {
             if lid <= 49151 {
-                f.attach(host_guid(lid), lid as u16, 0, s, (degree + 1 + h) as u8);
+                f.attach(Host {
+                    guid: host_guid(lid),
+                    lid: lid as u16,
+                    lmc: 0,
+                    switch: s,
+                    port: (degree + 1 + h) as u8,
+                });
                 lid += 1;
             }
         }
@@ -221,7 +233,7 @@ fn regular(n: usize, degree: usize, hosts: usize, seed: u64) -> Fabric {
 /// Tables by least hops over any fabric; by `updown`, down where a way down leads there, and else up by the levels of a tree from switch 0.
 pub fn fill_min_hop(f: &mut Fabric, updown: bool) {
     let n = f.switches.len();
-    let w = f.most_lid + 1;
+    let w = f.lids;
     let mut near: Vec<Vec<(u8, usize)>> = vec![Vec::new(); n];
     for s in 0..n {
         for p in 1..=f.switches[s].ports {
@@ -245,7 +257,7 @@ pub fn fill_min_hop(f: &mut Fabric, updown: bool) {
     let mut lids: Vec<Vec<(usize, u8)>> = (0..n).map(|s| vec![(s + 1, 0u8)]).collect();
     for h in &f.hosts {
         for i in 0..1usize << h.lmc {
-            lids[h.at as usize].push((h.lid as usize + i, h.port));
+            lids[h.switch].push((h.lid as usize + i, h.port));
         }
     }
     let mut turn = 0usize;
@@ -334,7 +346,13 @@ pub fn dragonfly(a: usize, global: usize, hosts: usize, updown: bool) -> Fabric 
     for s in 0..n {
         for h in 0..hosts {
             if lid <= 49151 {
-                f.attach(host_guid(lid), lid as u16, 0, s, (a + global + h) as u8);
+                f.attach(Host {
+                    guid: host_guid(lid),
+                    lid: lid as u16,
+                    lmc: 0,
+                    switch: s,
+                    port: (a + global + h) as u8,
+                });
                 lid += 1;
             }
         }
@@ -350,7 +368,13 @@ fn pair(hosts: usize, lmc: u8) -> Fabric {
     f.link(0, 1, 1, 1);
     let many = 1usize << lmc;
     for h in 0..2 * hosts {
-        f.attach(host_guid(h + 1), ((h + 1) * many) as u16, lmc, h / hosts, (2 + h % hosts) as u8);
+        f.attach(Host {
+            guid: host_guid(h + 1),
+            lid: ((h + 1) * many) as u16,
+            lmc: lmc,
+            switch: h / hosts,
+            port: (2 + h % hosts) as u8,
+        });
     }
     f.make_tables();
     fill_min_hop(&mut f, false);
@@ -362,7 +386,13 @@ fn star(hosts: usize, lmc: u8) -> Fabric {
     let mut f = Fabric::new(switches(1, hosts as u8));
     let many = 1usize << lmc;
     for h in 0..hosts {
-        f.attach(host_guid(h + 1), ((h + 1) * many) as u16, lmc, 0, (1 + h) as u8);
+        f.attach(Host {
+            guid: host_guid(h + 1),
+            lid: ((h + 1) * many) as u16,
+            lmc: lmc,
+            switch: 0,
+            port: (1 + h) as u8,
+        });
     }
     f.make_tables();
     fill_min_hop(&mut f, false);
@@ -389,15 +419,21 @@ fn chain(n: usize, hosts: usize, mixed: bool) -> Fabric {
     }
     for h in 0..2 * hosts {
         let at = if h < hosts { order[0] } else { order[n - 1] };
-        f.attach(host_guid(h + 1), (h + 1) as u16, 0, at, (3 + h % hosts) as u8);
+        f.attach(Host {
+            guid: host_guid(h + 1),
+            lid: (h + 1) as u16,
+            lmc: 0,
+            switch: at,
+            port: (3 + h % hosts) as u8,
+        });
     }
     f.make_tables();
-    let w = f.most_lid + 1;
+    let w = f.lids;
     for h in 0..2 * hosts {
         for s in 0..n {
             f.lft[s * w + h + 1] = if h < hosts { 1 } else { 2 };
         }
-        f.lft[f.hosts[h].at as usize * w + h + 1] = f.hosts[h].port;
+        f.lft[f.hosts[h].switch * w + h + 1] = f.hosts[h].port;
     }
     f
 }
@@ -406,7 +442,7 @@ fn chain(n: usize, hosts: usize, mixed: bool) -> Fabric {
 fn wild(n: usize, degree: usize, hosts: usize) -> Fabric {
     let mut r = Rng(11);
     let mut f = regular(n, degree, hosts, 7);
-    let w = f.most_lid + 1;
+    let w = f.lids;
     for s in 0..n {
         for d in 1..w {
             f.lft[s * w + d] = 1 + r.below(degree) as u8;
@@ -414,7 +450,7 @@ fn wild(n: usize, degree: usize, hosts: usize) -> Fabric {
         f.lft[s * w + f.switches[s].lid as usize] = 0;
     }
     for h in 0..f.hosts.len() {
-        f.lft[f.hosts[h].at as usize * w + f.hosts[h].lid as usize] = f.hosts[h].port;
+        f.lft[f.hosts[h].switch * w + f.hosts[h].lid as usize] = f.hosts[h].port;
     }
     f
 }

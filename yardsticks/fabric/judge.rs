@@ -70,14 +70,14 @@ pub enum Owner {
 pub fn sources(f: &Fabric, traffic: Traffic) -> Sources {
     let mut count = vec![0u32; f.switches.len()];
     for h in &f.hosts {
-        count[h.at as usize] += 1;
+        count[h.switch] += 1;
     }
     if traffic == Traffic::All {
         for c in &mut count {
             *c += 1;
         }
     }
-    let mut owner = vec![Owner::None; f.most_lid + 1];
+    let mut owner = vec![Owner::None; f.lids];
     for (i, h) in f.hosts.iter().enumerate() {
         for l in 0..1usize << h.lmc {
             owner[h.lid as usize + l] = Owner::Host(i as u32);
@@ -98,7 +98,7 @@ impl Sources {
     /// How many end ports at a switch send to an owner.
     pub fn at(&self, f: &Fabric, s: usize, owner: Owner) -> u32 {
         let own = match owner {
-            Owner::Host(h) => f.hosts[h as usize].at as usize == s,
+            Owner::Host(h) => f.hosts[h as usize].switch == s,
             Owner::Switch(t) => t as usize == s && self.traffic == Traffic::All,
             Owner::None => false,
         };
@@ -137,7 +137,7 @@ pub const BLOCK: usize = 64;
 /// Calls the function with each LID that has an owner and the column of the tables for it, in rising order.
 pub fn columns<F: FnMut(usize, Owner, &[u8])>(f: &Fabric, src: &Sources, mut each: F) {
     let n = f.switches.len();
-    let w = f.most_lid + 1;
+    let w = f.lids;
     let mut cols = vec![0u8; BLOCK * n];
     let mut d0 = 0;
     while d0 < w {
@@ -281,7 +281,7 @@ pub fn walk_all(f: &Fabric, src: &Sources, graph: &mut Graph) -> Arrival {
 /// no route does, and so all routes arrive if no entry stops one.
 pub fn waves(f: &Fabric, src: &Sources, graph: &mut Graph) -> (usize, u64, u64) {
     let n = f.switches.len();
-    let w = f.most_lid + 1;
+    let w = f.lids;
     let packed = Packed::new(f);
     let sends: u64 = src.count.iter().map(|&c| c as u64).sum();
     let starts: Vec<usize> = (0..n).filter(|&s| src.count[s] > 0).collect();
@@ -301,7 +301,7 @@ pub fn waves(f: &Fabric, src: &Sources, graph: &mut Graph) -> (usize, u64, u64) 
                 Owner::None => continue,
                 Owner::Host(h) => {
                     target[i] = END | HOST | h;
-                    at[i] = f.hosts[h as usize].at as usize;
+                    at[i] = f.hosts[h as usize].switch;
                     routes += sends - 1;
                 }
                 Owner::Switch(t) => {
@@ -450,7 +450,7 @@ fn least_failing(f: &Fabric, src: &Sources, d: usize, owner: Owner, col: &[u8]) 
     };
     for (i, h) in f.hosts.iter().enumerate() {
         if owner != Owner::Host(i as u32) {
-            try_one(h.guid, h.at as usize);
+            try_one(h.guid, h.switch);
         }
     }
     if src.traffic == Traffic::All {
@@ -473,7 +473,7 @@ pub fn walk_lanes(f: &Fabric, src: &Sources, lanes: &Lanes, graph: &mut Graph) -
     let starting = lanes.starting(f);
     let mut at_switch: Vec<Vec<u32>> = vec![Vec::new(); n];
     for (i, h) in f.hosts.iter().enumerate() {
-        at_switch[h.at as usize].push(i as u32);
+        at_switch[h.switch].push(i as u32);
     }
     let mut to = vec![0u32; n];
     let mut seen = vec![false; n];
@@ -619,7 +619,7 @@ pub fn walk_lanes(f: &Fabric, src: &Sources, lanes: &Lanes, graph: &mut Graph) -
 /// have the same lanes.
 pub fn waves_lanes(f: &Fabric, src: &Sources, lanes: &Lanes, graph: &mut Graph) -> usize {
     let n = f.switches.len();
-    let w = f.most_lid + 1;
+    let w = f.lids;
     let packed = Packed::new(f);
     let classes = lanes.classes;
     // groups
@@ -648,7 +648,7 @@ pub fn waves_lanes(f: &Fabric, src: &Sources, lanes: &Lanes, graph: &mut Graph) 
     let mut queue: Vec<u32> = Vec::new();
     let mut at_switch: Vec<Vec<u32>> = vec![Vec::new(); n];
     for (i, h) in f.hosts.iter().enumerate() {
-        at_switch[h.at as usize].push(i as u32);
+        at_switch[h.switch].push(i as u32);
     }
     let v = graph.lanes;
     let mut d0 = 0;
@@ -1078,7 +1078,7 @@ pub fn witnesses(f: &Fabric, src: &Sources, cycle: &[usize], at: &[u32]) -> Vec<
             for (h, host) in f.hosts.iter().enumerate() {
                 if owner != Owner::Host(h as u32)
                     && least.is_none_or(|l| host.guid < l)
-                    && leads(host.at as usize, &mut by)
+                    && leads(host.switch, &mut by)
                 {
                     least = Some(host.guid);
                 }

@@ -2,6 +2,13 @@
 use crate::judge::Owner;
 use crate::model::*;
 
+/// How many service levels there are.
+pub const LEVELS: usize = 16;
+/// The lane of what is discarded.
+pub const DISCARD: u8 = 15;
+/// The level of a pair without one.
+pub const NO_LEVEL: u8 = 255;
+
 pub struct Lanes {
     pub lanes: usize,
     /// how many classes of service levels there are: those of one class take the same lanes everywhere
@@ -29,7 +36,7 @@ impl Lanes {
             Start::Pairs(_) => 0,
             Start::Torus(dims) => {
                 let t = match owner {
-                    Owner::Host(h) => f.hosts[h as usize].at as usize,
+                    Owner::Host(h) => f.hosts[h as usize].switch,
                     Owner::Switch(t) => t as usize,
                     Owner::None => 0,
                 };

@@ -7,7 +7,10 @@ mod gen;
 mod judge;
 mod lanes;
 mod model;
-mod text;
+mod opensm;
+mod tables;
+mod topology;
+mod wiring;
 use judge::*;
 use model::*;
 use std::fs::File;
@@ -210,16 +213,16 @@ fn main() {
         "gen" => {
             let f = gen::by_words(&w[3..]);
             let mut t = BufWriter::with_capacity(1 << 20, File::create(format!("{}.topo", w[2])).unwrap());
-            text::write_topology(&f, &mut t).unwrap();
+            topology::write_topology(&f, &mut t).unwrap();
             let mut t = BufWriter::with_capacity(1 << 20, File::create(format!("{}.lfts", w[2])).unwrap());
-            text::write_tables(&f, &mut t, w[1] == "long").unwrap();
+            tables::write_tables(&f, &mut t, w[1] == "long").unwrap();
         }
         // judge TOPOLOGY LFTS [hosts|lids|all [CERTIFICATE]]; once the same, in one way
         "judge" | "once" => {
             let t = Instant::now();
-            let mut f = text::read_topology(BufReader::new(File::open(w[1]).unwrap()));
+            let mut f = topology::read_topology(BufReader::new(File::open(w[1]).unwrap()));
             let t1 = Instant::now();
-            match text::read_tables(&mut f, File::open(w[2]).unwrap(), true) {
+            match tables::read_tables(&mut f, File::open(w[2]).unwrap(), true) {
                 Ok(r) => {
                     let s = t1.elapsed().as_secs_f64();
                     eprintln!(
@@ -249,20 +252,20 @@ fn main() {
         "dumps" => {
             let open = |x: &str| File::open(format!("{}/{x}", w[2]));
             let mut f = match open("ibnetdiscover.txt") {
-                Ok(t) if w.get(3) == Some(&"net") => text::read_topology(BufReader::new(t)),
-                _ => text::read_subnet(BufReader::new(open("opensm-subnet.lst").unwrap())),
+                Ok(t) if w.get(3) == Some(&"net") => topology::read_topology(BufReader::new(t)),
+                _ => opensm::read_subnet(BufReader::new(open("opensm-subnet.lst").unwrap())),
             };
-            if let Err(e) = text::read_tables(&mut f, open("opensm-lfts.dump").unwrap(), true) {
+            if let Err(e) = tables::read_tables(&mut f, open("opensm-lfts.dump").unwrap(), true) {
                 eprintln!("fabric: {e}");
                 std::process::exit(3);
             }
             let lane = match w.get(3).copied() {
-                Some("lanes") => Some(text::read_lanes(
+                Some("lanes") => Some(opensm::read_lanes(
                     &f,
                     BufReader::new(open("opensm-sl2vl.dump").unwrap()),
                     Some(BufReader::new(open("path-sl.dump").unwrap())),
                 )),
-                Some("all-levels") => Some(text::read_lanes(
+                Some("all-levels") => Some(opensm::read_lanes(
                     &f,
                     BufReader::new(open("opensm-sl2vl.dump").unwrap()),
                     None::<BufReader<File>>,
@@ -273,15 +276,15 @@ fn main() {
         }
         // parse TOPOLOGY LFTS: reads alone; lines LFTS: counts lines
         "parse" => {
-            let mut f = text::read_topology(BufReader::new(File::open(w[1]).unwrap()));
+            let mut f = topology::read_topology(BufReader::new(File::open(w[1]).unwrap()));
             let t1 = Instant::now();
-            let r = text::read_tables(&mut f, File::open(w[2]).unwrap(), false).unwrap();
+            let r = tables::read_tables(&mut f, File::open(w[2]).unwrap(), false).unwrap();
             let s = t1.elapsed().as_secs_f64();
             println!("{} entries {:.2} s {:.0} MB/s", r.entries, s, r.bytes as f64 / s / 1e6);
         }
         "lines" => {
             let t1 = Instant::now();
-            let n = text::count_lines(File::open(w[1]).unwrap());
+            let n = tables::count_lines(File::open(w[1]).unwrap());
             println!("{n} lines {:.2} s", t1.elapsed().as_secs_f64());
         }
         _ => panic!("words"),
