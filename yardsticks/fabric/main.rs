@@ -3,13 +3,20 @@
 
 #![forbid(unsafe_code)]
 
+mod dragonfly;
+mod fat_tree;
 mod gen;
 mod judge;
 mod lanes;
+mod least_hops;
 mod model;
 mod opensm;
+mod random;
+mod rng;
+mod slow;
 mod tables;
 mod topology;
+mod torus;
 mod wiring;
 use judge::*;
 use model::*;

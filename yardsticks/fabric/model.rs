@@ -122,6 +122,14 @@ impl Fabric {
         self.far[self.slot(switch, port)]
     }
 
+    /// The links from a switch to switches: its port, the other switch and the port there.
+    pub fn links(&self, switch: usize) -> impl Iterator<Item = (u8, usize, u8)> + '_ {
+        (1..=self.switches[switch].ports).filter_map(move |port| match self.far(switch, port) {
+            Far::Switch(other, other_port) => Some((port, other as usize, other_port)),
+            _ => None,
+        })
+    }
+
     /// The places of the switches by their GUIDs.
     pub fn places(&self) -> HashMap<u64, usize> {
         self.switches.iter().enumerate().map(|(place, switch)| (switch.guid, place)).collect()
