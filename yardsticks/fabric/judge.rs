@@ -1,30 +1,7 @@
-//! The judgement: dependencies of all routes, ranks or the least cycle, and the routes that do not arrive.
+//! The judgement: dependencies of all routes, and the routes that do not arrive.
+use crate::graph::Graph;
 use crate::lanes::Lanes;
 use crate::model::*;
-
-/// The channel dependency graph. A channel is a directed link from a switch to a switch on a lane; its node is
-/// (base[s] + p) * lanes + v. Each switch has a bit for each channel in and channel out.
-pub struct Graph {
-    pub lanes: usize,
-    pub wide: usize,
-    pub words: Vec<u64>,
-}
-
-impl Graph {
-    pub fn new(f: &Fabric, lanes: usize) -> Graph {
-        let most = f.switches.iter().map(|s| s.ports as usize).max().unwrap_or(0);
-        let wide = (most * lanes).div_ceil(64);
-        Graph { lanes, wide, words: vec![0; f.far.len() * lanes * wide] }
-    }
-    /// Channel `c` leads on to the bit of a port and lane: (port - 1) * lanes + lane.
-    #[inline]
-    pub fn set(&mut self, c: usize, bit: usize) {
-        self.words[c * self.wide + bit / 64] |= 1 << (bit % 64);
-    }
-    pub fn count(&self) -> usize {
-        self.words.iter().map(|w| w.count_ones() as usize).sum()
-    }
-}
 
 #[derive(Clone, Copy, PartialEq, Eq, Debug)]
 pub enum Kind {
@@ -248,7 +225,7 @@ pub fn walk_all(f: &Fabric, src: &Sources, graph: &mut Graph) -> Arrival {
                 }
                 let t = (x >> 8) as usize;
                 if to[t] & END == 0 {
-                    graph.set(f.base[s] as usize + col[s] as usize, col[t] as usize - 1);
+                    graph.add(f.base[s] as usize + col[s] as usize, col[t]);
                 }
                 s = t;
             }
@@ -375,7 +352,7 @@ pub fn waves(f: &Fabric, src: &Sources, graph: &mut Graph) -> (usize, u64, u64) 
                 let t = (x >> 8) as usize;
                 let q = block[t * 64 + i];
                 if q != 0 && q <= packed.ports[t] {
-                    graph.set(first + p as usize, q as usize - 1);
+                    graph.add(first + p as usize, q);
                 }
                 let bit = 1u64 << i;
                 if (come[t] | fresh[t]) & bit == 0 {
@@ -392,26 +369,7 @@ pub fn waves(f: &Fabric, src: &Sources, graph: &mut Graph) -> (usize, u64, u64) 
         }
         d0 += 64;
     }
-    // what leads to no switch is no channel
-    let mut mask = vec![0u64; graph.wide * n];
-    for s in 0..n {
-        for p in 1..=packed.ports[s] as usize {
-            if packed.side[packed.base[s] as usize + p] & END == 0 {
-                mask[s * graph.wide + (p - 1) / 64] |= 1 << ((p - 1) % 64);
-            }
-        }
-    }
-    for s in 0..n {
-        for p in 1..=packed.ports[s] as usize {
-            let x = packed.side[packed.base[s] as usize + p];
-            if x & END == 0 {
-                let t = (x >> 8) as usize;
-                for k in 0..graph.wide {
-                    graph.words[(packed.base[s] as usize + p) * graph.wide + k] &= mask[t * graph.wide + k];
-                }
-            }
-        }
-    }
+    graph.keep_channels(f);
     (lids, routes, stops)
 }
 
@@ -571,10 +529,7 @@ pub fn walk_lanes(f: &Fabric, src: &Sources, lanes: &Lanes, graph: &mut Graph) -
                 while vs != 0 {
                     let v = vs.trailing_zeros() as usize;
                     vs &= vs - 1;
-                    graph.set(
-                        (f.base[s] as usize + col[s] as usize) * graph.lanes + v,
-                        (q - 1) * graph.lanes + w as usize,
-                    );
+                    graph.add_lanes((f.base[s] as usize + col[s] as usize, v as u8), (col[t], w));
                 }
                 let o = &mut out[t * classes + c];
                 if *o >> w & 1 == 0 {
@@ -650,7 +605,6 @@ pub fn waves_lanes(f: &Fabric, src: &Sources, lanes: &Lanes, graph: &mut Graph) 
     for (i, h) in f.hosts.iter().enumerate() {
         at_switch[h.switch].push(i as u32);
     }
-    let v = graph.lanes;
     let mut d0 = 0;
     while d0 < w {
         let many = 64.min(w - d0);
@@ -738,7 +692,7 @@ pub fn waves_lanes(f: &Fabric, src: &Sources, lanes: &Lanes, graph: &mut Graph) 
                     if q != 0 && q < there && packed.side[packed.base[t] as usize + q] & END == 0 {
                         let next = lanes.table[t][(j * there + q) * classes + c];
                         if next != 15 {
-                            graph.set((base + p) * v + lane as usize, (q - 1) * v + next as usize);
+                            graph.add_lanes((base + p, lane), (q as u8, next));
                         }
                     }
                     let to = group[packed.base[t] as usize + j] as usize;
@@ -757,278 +711,13 @@ pub fn waves_lanes(f: &Fabric, src: &Sources, lanes: &Lanes, graph: &mut Graph) 
     nodes
 }
 
-// ---------------------------------------------------------------- the graph
-
-pub struct View<'a> {
-    pub f: &'a Fabric,
-    pub g: &'a Graph,
-    pub at: Vec<u32>,
-}
-
-impl<'a> View<'a> {
-    pub fn new(f: &'a Fabric, g: &'a Graph) -> View<'a> {
-        let mut at = vec![0u32; f.far.len()];
-        for s in 0..f.switches.len() {
-            for p in 0..=f.switches[s].ports as usize {
-                at[f.base[s] as usize + p] = s as u32;
-            }
-        }
-        View { f, g, at }
-    }
-    pub fn nodes(&self) -> usize {
-        self.f.far.len() * self.g.lanes
-    }
-    pub fn is_channel(&self, c: usize) -> bool {
-        matches!(self.f.far[c / self.g.lanes], Far::Switch(..))
-    }
-    /// The first word of the row of a channel, how many there are, and the node of its bit 0.
-    #[inline]
-    pub fn row(&self, c: usize) -> (usize, usize, usize) {
-        match self.f.far[c / self.g.lanes] {
-            Far::Switch(t, _) => {
-                (c * self.g.wide, self.g.wide, (self.f.base[t as usize] as usize + 1) * self.g.lanes)
-            }
-            _ => (0, 0, 0),
-        }
-    }
-    pub fn each<F: FnMut(usize)>(&self, c: usize, mut do_it: F) {
-        let (i, wide, b) = self.row(c);
-        for k in 0..wide {
-            let mut w = self.g.words[i + k];
-            while w != 0 {
-                do_it(b + k * 64 + w.trailing_zeros() as usize);
-                w &= w - 1;
-            }
-        }
-    }
-    pub fn has(&self, c: usize, d: usize) -> bool {
-        let mut y = false;
-        self.each(c, |x| y |= x == d);
-        y
-    }
-}
-
-/// Ranks: 0 where a channel leads nowhere, else one more than the greatest rank to which it leads; or a channel on a cycle.
-pub fn ranks(v: &View) -> Result<Vec<u32>, usize> {
-    const NEW: u32 = u32::MAX;
-    const OPEN: u32 = u32::MAX - 1;
-    let n = v.nodes();
-    let mut rank = vec![NEW; n];
-    let mut stack: Vec<(u32, u32, u64, u32)> = Vec::new(); // node, word, bits left, rank so far
-    for c in 0..n {
-        if rank[c] != NEW || !v.is_channel(c) {
-            continue;
-        }
-        rank[c] = OPEN;
-        let (i, wide, _) = v.row(c);
-        stack.push((c as u32, 0, if wide > 0 { v.g.words[i] } else { 0 }, 0));
-        while let Some(&mut (x, ref mut k, ref mut bits, ref mut own)) = stack.last_mut() {
-            let (i, wide, b) = v.row(x as usize);
-            let mut into = None;
-            loop {
-                if *bits == 0 {
-                    *k += 1;
-                    if *k as usize >= wide {
-                        break;
-                    }
-                    *bits = v.g.words[i + *k as usize];
-                    continue;
-                }
-                let y = b + *k as usize * 64 + bits.trailing_zeros() as usize;
-                match rank[y] {
-                    NEW => {
-                        into = Some(y);
-                        break;
-                    }
-                    OPEN => return Err(y),
-                    r => {
-                        *own = (*own).max(r + 1);
-                        *bits &= *bits - 1;
-                    }
-                }
-            }
-            match into {
-                Some(y) => {
-                    rank[y] = OPEN;
-                    let (i, wide, _) = v.row(y);
-                    stack.push((y as u32, 0, if wide > 0 { v.g.words[i] } else { 0 }, 0));
-                }
-                None => {
-                    rank[x as usize] = *own;
-                    stack.pop();
-                }
-            }
-        }
-    }
-    Ok(rank)
-}
-
-/// One pass over all dependencies: whether each goes to a lower rank and the ranks are the least.
-pub fn verify(v: &View, rank: &[u32]) -> bool {
-    for c in 0..v.nodes() {
-        if !v.is_channel(c) {
-            continue;
-        }
-        let mut best = 0;
-        let mut fine = true;
-        v.each(c, |d| {
-            fine &= rank[d] < rank[c];
-            best = best.max(rank[d].wrapping_add(1));
-        });
-        if !fine || best != rank[c] {
-            return false;
-        }
-    }
-    true
-}
-
-/// Tiers: the strongly connected components, by Tarjan. Answers the component of each channel.
-pub fn components(v: &View) -> Vec<u32> {
-    let n = v.nodes();
-    let mut num = vec![0u32; n];
-    let mut low = vec![0u32; n];
-    let mut comp = vec![u32::MAX; n];
-    let mut open: Vec<u32> = Vec::new();
-    let mut stack: Vec<(u32, u32, u64)> = Vec::new();
-    let (mut count, mut many) = (0u32, 0u32);
-    for c in 0..n {
-        if num[c] != 0 || !v.is_channel(c) {
-            continue;
-        }
-        count += 1;
-        num[c] = count;
-        low[c] = count;
-        open.push(c as u32);
-        let (i, wide, _) = v.row(c);
-        stack.push((c as u32, 0, if wide > 0 { v.g.words[i] } else { 0 }));
-        while let Some(&mut (x, ref mut k, ref mut bits)) = stack.last_mut() {
-            let xs = x as usize;
-            let (i, wide, b) = v.row(xs);
-            let mut into = None;
-            loop {
-                if *bits == 0 {
-                    *k += 1;
-                    if *k as usize >= wide {
-                        break;
-                    }
-                    *bits = v.g.words[i + *k as usize];
-                    continue;
-                }
-                let y = b + *k as usize * 64 + bits.trailing_zeros() as usize;
-                if num[y] == 0 {
-                    into = Some(y);
-                    break;
-                }
-                if comp[y] == u32::MAX {
-                    low[xs] = low[xs].min(low[y].min(num[y]));
-                }
-                *bits &= *bits - 1;
-            }
-            match into {
-                Some(y) => {
-                    count += 1;
-                    num[y] = count;
-                    low[y] = count;
-                    open.push(y as u32);
-                    let (i, wide, _) = v.row(y);
-                    stack.push((y as u32, 0, if wide > 0 { v.g.words[i] } else { 0 }));
-                }
-                None => {
-                    if low[xs] == num[xs] {
-                        loop {
-                            let y = open.pop().unwrap();
-                            comp[y as usize] = many;
-                            if y == x {
-                                break;
-                            }
-                        }
-                        many += 1;
-                    }
-                    stack.pop();
-                }
-            }
-        }
-    }
-    comp
-}
-
-/// The least cycle: from the least channel on any cycle, a shortest, and of these the least as a list.
-pub fn least_cycle(v: &View, comp: &[u32]) -> Option<Vec<usize>> {
-    let n = v.nodes();
-    let start = (0..n).find(|&c| {
-        v.is_channel(c) && {
-            let mut y = false;
-            v.each(c, |d| y |= comp[d] == comp[c]);
-            y
-        }
-    })?;
-    // levels towards the start, by the steps backward within its component, a round for each level
-    let mut level = vec![u32::MAX; n];
-    level[start] = 0;
-    let members: Vec<u32> =
-        (0..n).filter(|&c| comp[c] == comp[start] && v.is_channel(c)).map(|c| c as u32).collect();
-    // who leads to whom, backward, in one list
-    let mut first = vec![0u32; n + 1];
-    for &c in &members {
-        v.each(c as usize, |d| first[d + 1] += 1);
-    }
-    for c in 0..n {
-        first[c + 1] += first[c];
-    }
-    let mut back = vec![0u32; first[n] as usize];
-    let mut fill = first.clone();
-    for &c in &members {
-        v.each(c as usize, |d| {
-            back[fill[d] as usize] = c;
-            fill[d] += 1;
-        });
-    }
-    let mut queue = std::collections::VecDeque::from([start]);
-    'all: while let Some(x) = queue.pop_front() {
-        for &y in &back[first[x] as usize..first[x + 1] as usize] {
-            if y as usize == start {
-                break 'all;
-            }
-            if level[y as usize] == u32::MAX {
-                level[y as usize] = level[x] + 1;
-                queue.push_back(y as usize);
-            }
-        }
-    }
-    let mut cycle = vec![start];
-    let mut c = start;
-    let mut want = None;
-    loop {
-        let mut best: Option<(u32, usize)> = None;
-        v.each(c, |d| {
-            if comp[d] == comp[start] && level[d] != u32::MAX {
-                let l = level[d];
-                let better = match want {
-                    None => best.is_none_or(|b| l < b.0),
-                    Some(w) => l == w && best.is_none(),
-                };
-                if better {
-                    best = Some((l, d));
-                }
-            }
-        });
-        let (l, d) = best.unwrap();
-        if l == 0 {
-            return Some(cycle);
-        }
-        cycle.push(d);
-        c = d;
-        want = Some(l - 1);
-    }
-}
-
 /// For each dependency of a cycle without lanes, the least LID and the least source whose route has it.
-pub fn witnesses(f: &Fabric, src: &Sources, cycle: &[usize], at: &[u32]) -> Vec<(u16, u64)> {
+pub fn witnesses(f: &Fabric, src: &Sources, cycle: &[usize]) -> Vec<(u16, u64)> {
     let k = cycle.len();
     let ends: Vec<(usize, u8, usize, u8)> = (0..k)
         .map(|i| {
             let (c, d) = (cycle[i], cycle[(i + 1) % k]);
-            let (s, t) = (at[c] as usize, at[d] as usize);
+            let (s, t) = (f.switch_of(c), f.switch_of(d));
             (s, (c - f.base[s] as usize) as u8, t, (d - f.base[t] as usize) as u8)
         })
         .collect();

@@ -3,23 +3,32 @@
 
 #![forbid(unsafe_code)]
 
+mod bits;
+mod components;
+mod cycle;
 mod dragonfly;
 mod fat_tree;
 mod gen;
+mod graph;
 mod judge;
 mod lanes;
 mod least_hops;
 mod model;
 mod opensm;
 mod random;
+mod ranks;
 mod rng;
 mod slow;
 mod tables;
 mod topology;
 mod torus;
 mod wiring;
+use components::{components, NONE};
+use cycle::least_cycle;
+use graph::{Channels, Graph};
 use judge::*;
 use model::*;
+use ranks::{are_ranks, ranks, Cyclic};
 use std::fs::File;
 use std::io::{BufReader, BufWriter, Write};
 
@@ -62,28 +71,13 @@ fn peak() -> f64 {
         .unwrap()
         / 1024.0
 }
-fn name(f: &Fabric, at: &[u32], c: usize, lanes: usize) -> String {
-    let s = at[c / lanes] as usize;
-    let p = c / lanes - f.base[s] as usize;
-    if lanes == 1 {
-        format!("0x{:016x}[{}]", f.switches[s].guid, p)
-    } else {
-        format!("0x{:016x}[{}]vl{}", f.switches[s].guid, p, c % lanes)
-    }
-}
-
 /// Finds the dependencies by waves too, and asserts that they are those of the walk.
 fn compare_waves(f: &Fabric, src: &Sources, g: &Graph, a: &Arrival) {
     let t0 = Instant::now();
     let mut gw = Graph::new(f, 1);
     let (wl, wr, ws) = waves(f, src, &mut gw);
     eprintln!("# waves {:.2} s, stops {ws}", t0.elapsed().as_secs_f64());
-    assert!(
-        gw.words == g.words
-            && wl == a.lids
-            && wr == a.routes
-            && (ws == 0) == (a.missing + a.dead + a.wrong == 0)
-    );
+    assert!(gw == *g && wl == a.lids && wr == a.routes && (ws == 0) == (a.missing + a.dead + a.wrong == 0));
 }
 
 /// Judges, in both ways or, if it is to be done `once`, by the walk alone and without looking at the ranks again.
@@ -106,10 +100,10 @@ fn judge_it(f: &Fabric, traffic: Traffic, lane: Option<lanes::Lanes>, cert: Opti
         g = Graph::new(f, n_lanes);
         let d = walk_lanes(f, &src, l, &mut g);
         eprintln!("# walk with lanes {:.2} s, discards {d}", t1.elapsed().as_secs_f64());
-        assert!(gl.words == g.words);
+        assert!(gl == g);
     }
-    let v = View::new(f, &g);
-    let channels = (0..v.nodes()).filter(|&c| v.is_channel(c)).count();
+    let v = Channels::new(f, &g);
+    let channels = v.all().count();
     let links = channels / n_lanes / 2;
     println!("fabric 1");
     println!("switches {} hosts {} links {} lids {}", f.switches.len(), f.hosts.len(), links, a.lids);
@@ -120,46 +114,44 @@ fn judge_it(f: &Fabric, traffic: Traffic, lane: Option<lanes::Lanes>, cert: Opti
     match ranks(&v) {
         Ok(r) => {
             let t3 = Instant::now();
-            assert!(once || verify(&v, &r));
+            assert!(once || are_ranks(&v, &r));
             eprintln!(
                 "# ranks {:.3} s, verified {:.3} s",
                 (t3 - t2).as_secs_f64(),
                 t3.elapsed().as_secs_f64()
             );
-            let top = (0..v.nodes()).filter(|&c| v.is_channel(c)).map(|c| r[c]).max().unwrap_or(0);
+            let top = v.all().map(|c| r[c]).max().unwrap_or(0);
             println!("cycle none ranks {}", top + 1);
             if let Some(path) = cert {
                 let mut w = BufWriter::new(File::create(path).unwrap());
-                for c in 0..v.nodes() {
-                    if v.is_channel(c) {
-                        writeln!(w, "rank {} {}", name(f, &v.at, c, n_lanes), r[c]).unwrap();
-                    }
+                for c in v.all() {
+                    writeln!(w, "rank {} {}", v.name(c), r[c]).unwrap();
                 }
             }
         }
-        Err(_) => {
+        Err(Cyclic) => {
             let t3 = Instant::now();
             let comp = components(&v);
             let t4 = Instant::now();
             let cycle = least_cycle(&v, &comp).unwrap();
             let t5 = Instant::now();
             for i in 0..cycle.len() {
-                assert!(v.has(cycle[i], cycle[(i + 1) % cycle.len()]));
+                assert!(v.successors(cycle[i]).any(|d| d == cycle[(i + 1) % cycle.len()]));
             }
             println!("cycle {}", cycle.len());
             if n_lanes == 1 {
-                let wit = witnesses(f, &src, &cycle, &v.at);
+                let wit = witnesses(f, &src, &cycle);
                 for (i, (d, s)) in wit.iter().enumerate() {
-                    println!("channel {} lid {} from 0x{:016x}", name(f, &v.at, cycle[i], n_lanes), d, s);
+                    println!("channel {} lid {} from 0x{:016x}", v.name(cycle[i]), d, s);
                 }
             } else {
                 for &c in &cycle {
-                    println!("channel {}", name(f, &v.at, c, n_lanes));
+                    println!("channel {}", v.name(c));
                 }
             }
             let mut sizes = std::collections::HashMap::new();
             for c in &comp {
-                if *c != u32::MAX {
+                if *c != NONE {
                     *sizes.entry(*c).or_insert(0usize) += 1;
                 }
             }

@@ -114,6 +114,11 @@ impl Fabric {
         self.base[switch] as usize + usize::from(port)
     }
 
+    /// The switch of a slot.
+    pub fn switch_of(&self, slot: usize) -> usize {
+        self.base.partition_point(|&base| base as usize <= slot) - 1
+    }
+
     /// What stands at the far side of a port, which may be greater than those of the switch.
     pub fn far(&self, switch: usize, port: u8) -> Far {
         if port > self.switches[switch].ports {
