@@ -4,12 +4,15 @@
 #![forbid(unsafe_code)]
 
 mod bits;
+mod columns;
 mod components;
 mod cycle;
 mod dragonfly;
 mod fat_tree;
+mod front;
 mod gen;
 mod graph;
+mod hop;
 mod judge;
 mod lanes;
 mod least_hops;
@@ -22,15 +25,24 @@ mod slow;
 mod tables;
 mod topology;
 mod torus;
+mod traffic;
+mod walk;
+mod waves;
 mod wiring;
+mod witnesses;
 use components::{components, NONE};
 use cycle::least_cycle;
 use graph::{Channels, Graph};
-use judge::*;
-use model::*;
+use hop::End;
+use judge::{sources, walk_lanes, waves_lanes};
+use model::Fabric;
 use ranks::{are_ranks, ranks, Cyclic};
 use std::fs::File;
 use std::io::{BufReader, BufWriter, Write};
+use traffic::{Sources, Traffic};
+use walk::{walk, Arrival};
+use waves::waves;
+use witnesses::witnesses;
 
 /// Seconds of processor so far.
 fn cpu() -> f64 {
@@ -72,27 +84,30 @@ fn peak() -> f64 {
         / 1024.0
 }
 /// Finds the dependencies by waves too, and asserts that they are those of the walk.
-fn compare_waves(f: &Fabric, src: &Sources, g: &Graph, a: &Arrival) {
+fn compare_waves(src: &Sources, g: &Graph, a: &Arrival) {
     let t0 = Instant::now();
-    let mut gw = Graph::new(f, 1);
-    let (wl, wr, ws) = waves(f, src, &mut gw);
-    eprintln!("# waves {:.2} s, stops {ws}", t0.elapsed().as_secs_f64());
-    assert!(gw == *g && wl == a.lids && wr == a.routes && (ws == 0) == (a.missing + a.dead + a.wrong == 0));
+    let mut gw = Graph::new(src.fabric, 1);
+    let reach = waves(src, &mut gw);
+    eprintln!("# waves {:.2} s, stops {}", t0.elapsed().as_secs_f64(), reach.stops);
+    let stopped = [End::Missing, End::Dead, End::Wrong].map(|end| a.ending(end));
+    assert!(gw == *g && reach.lids == a.lids && reach.routes == a.routes());
+    assert!((reach.stops == 0) == (stopped == [0; 3]));
 }
 
 /// Judges, in both ways or, if it is to be done `once`, by the walk alone and without looking at the ranks again.
 fn judge_it(f: &Fabric, traffic: Traffic, lane: Option<lanes::Lanes>, cert: Option<&str>, once: bool) -> i32 {
-    let src = sources(f, traffic);
+    let src = Sources::new(f, traffic);
     let n_lanes = lane.as_ref().map_or(1, |l| l.lanes);
     let t0 = Instant::now();
     let mut g = Graph::new(f, 1);
-    let a = walk_all(f, &src, &mut g);
+    let a = walk(&src, &mut g);
     let t1 = Instant::now();
     eprintln!("# walk {:.2} s", (t1 - t0).as_secs_f64());
     if !once {
-        compare_waves(f, &src, &g, &a);
+        compare_waves(&src, &g, &a);
     }
     if let Some(l) = &lane {
+        let src = sources(f, traffic);
         let tw = Instant::now();
         let mut gl = Graph::new(f, n_lanes);
         let groups = waves_lanes(f, &src, l, &mut gl);
@@ -107,7 +122,7 @@ fn judge_it(f: &Fabric, traffic: Traffic, lane: Option<lanes::Lanes>, cert: Opti
     let links = channels / n_lanes / 2;
     println!("fabric 1");
     println!("switches {} hosts {} links {} lids {}", f.switches.len(), f.hosts.len(), links, a.lids);
-    println!("routes {} arrived {} hops {}", a.routes, a.arrived, a.most_hops);
+    println!("routes {} arrived {} hops {}", a.routes(), a.arrived(), a.most_hops);
     println!("channels {} dependencies {}", channels, g.count());
     let mut status = 0;
     let t2 = Instant::now();
@@ -140,9 +155,9 @@ fn judge_it(f: &Fabric, traffic: Traffic, lane: Option<lanes::Lanes>, cert: Opti
             }
             println!("cycle {}", cycle.len());
             if n_lanes == 1 {
-                let wit = witnesses(f, &src, &cycle);
-                for (i, (d, s)) in wit.iter().enumerate() {
-                    println!("channel {} lid {} from 0x{:016x}", v.name(cycle[i]), d, s);
+                let wit = witnesses(&src, &cycle);
+                for (&c, w) in cycle.iter().zip(&wit) {
+                    println!("channel {} lid {} from 0x{:016x}", v.name(c), w.lid, w.source);
                 }
             } else {
                 for &c in &cycle {
@@ -159,17 +174,17 @@ fn judge_it(f: &Fabric, traffic: Traffic, lane: Option<lanes::Lanes>, cert: Opti
             status = 8;
         }
     }
-    if a.arrived < a.routes {
+    if let Some(lost) = &a.first_lost {
         println!(
             "lost {} missing {} dead {} wrong {} loop {}",
-            a.routes - a.arrived,
-            a.missing,
-            a.dead,
-            a.wrong,
-            a.looped
+            a.routes() - a.arrived(),
+            a.ending(End::Missing),
+            a.ending(End::Dead),
+            a.ending(End::Wrong),
+            a.ending(End::Loop)
         );
-        let (d, g, s, k) = a.first.unwrap();
-        println!("first lid {} from 0x{:016x} at 0x{:016x} {:?}", d, g, f.switches[s as usize].guid, k);
+        let place = f.switches[lost.switch].guid;
+        println!("first lid {} from 0x{:016x} at 0x{place:016x} {:?}", lost.lid, lost.source, lost.end);
         status = 8;
     }
     eprintln!("# all {:.2} s, peak {:.0} MiB", t0.elapsed().as_secs_f64(), peak());
@@ -179,11 +194,6 @@ fn judge_it(f: &Fabric, traffic: Traffic, lane: Option<lanes::Lanes>, cert: Opti
 fn main() {
     let words: Vec<String> = std::env::args().skip(1).collect();
     let w: Vec<&str> = words.iter().map(|s| s.as_str()).collect();
-    let traffic = |x: &str| match x {
-        "hosts" => Traffic::Hosts,
-        "all" => Traffic::All,
-        _ => Traffic::Lids,
-    };
     match w[0] {
         // bench TRAFFIC LANES KIND NUMBERS..: makes the fabric in memory and judges it
         "bench" => {
@@ -206,7 +216,7 @@ fn main() {
                     Some(lanes::equal(&f, k, ((1u32 << k) - 1) as u16))
                 }
             };
-            std::process::exit(judge_it(&f, traffic(w[1]), lane, None, false));
+            std::process::exit(judge_it(&f, Traffic::named(w[1]), lane, None, false));
         }
         // gen short|long PREFIX KIND NUMBERS..: writes PREFIX.topo and PREFIX.lfts
         "gen" => {
@@ -241,7 +251,7 @@ fn main() {
             }
             std::process::exit(judge_it(
                 &f,
-                traffic(w.get(3).copied().unwrap_or("lids")),
+                Traffic::named(w.get(3).copied().unwrap_or("lids")),
                 None,
                 w.get(4).copied(),
                 w[0] == "once",
@@ -271,7 +281,7 @@ fn main() {
                 )),
                 _ => None,
             };
-            std::process::exit(judge_it(&f, traffic(w[1]), lane, None, false));
+            std::process::exit(judge_it(&f, Traffic::named(w[1]), lane, None, false));
         }
         // parse TOPOLOGY LFTS: reads alone; lines LFTS: counts lines
         "parse" => {
