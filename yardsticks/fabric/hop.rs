@@ -57,6 +57,12 @@ impl Hop {
         (self.0 >> 8) as usize
     }
 
+    /// The port by which that switch is entered.
+    #[inline]
+    pub fn port(self) -> u8 {
+        self.0 as u8
+    }
+
     /// How a route ends by it that was to end by another.
     pub fn end(self, target: Hop) -> End {
         match self {
@@ -106,6 +112,12 @@ impl<'a> Hops<'a> {
     #[inline]
     pub fn has_port(&self, switch: usize, port: u8) -> bool {
         port != 0 && port <= self.ports[switch]
+    }
+
+    /// Whether a port of a switch leads to a switch.
+    #[inline]
+    pub fn goes_on(&self, switch: usize, port: u8) -> bool {
+        self.of(switch).get(usize::from(port)).is_some_and(|hop| !hop.is_end())
     }
 
     /// Where each switch sends that has these ports in its table.

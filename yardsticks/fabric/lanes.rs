@@ -1,6 +1,8 @@
 //! Service levels and lanes: which lane a packet of a service level takes from a port in to a port out.
-use crate::judge::Owner;
-use crate::model::*;
+
+use crate::model::Fabric;
+use crate::torus::{axis, Torus, AXES};
+use crate::traffic::Owner;
 
 /// How many service levels there are.
 pub const LEVELS: usize = 16;
@@ -9,106 +11,113 @@ pub const DISCARD: u8 = 15;
 /// The level of a pair without one.
 pub const NO_LEVEL: u8 = 255;
 
+/// The lanes of a fabric. Service levels of one class take the same lanes everywhere.
 pub struct Lanes {
-    pub lanes: usize,
-    /// how many classes of service levels there are: those of one class take the same lanes everywhere
+    /// How many lanes there are.
+    pub count: usize,
+    /// How many classes of service levels there are.
     pub classes: usize,
-    /// for each switch, ((in * (ports + 1)) + out) * classes + class
-    pub table: Vec<Vec<u8>>,
-    /// the classes with which all end ports send to all, or by a function
-    pub by: Start,
+    /// Of each switch the lanes by port in, port out and class, from 0 on.
+    pub tables: Vec<Vec<u8>>,
+    pub start: Start,
 }
+
+/// With which classes the end ports send.
 pub enum Start {
+    /// All with these, of which each has a bit.
     Mask(u16),
-    Torus([usize; 3]),
+    /// By the axes of a torus whose ends the route crosses.
+    Torus(Torus),
+    /// By the host that sends and the LID.
     Pairs(Vec<Vec<u8>>),
 }
 
+impl Start {
+    /// All with all classes.
+    pub fn all(classes: usize) -> Start {
+        Start::Mask(((1u32 << classes) - 1) as u16)
+    }
+}
+
 impl Lanes {
+    /// The two lanes of a torus. A class is a set of axes, along which its packets take lane 1. End ports send with
+    /// all classes, or with that of the axes whose ends the route crosses.
+    pub fn of_torus(fabric: &Fabric, torus: Torus, with_all: bool) -> Lanes {
+        let classes = 1 << AXES;
+        let lane = |exit, class: usize| axis(exit).map_or(0, |axis| (class >> axis & 1) as u8);
+        let start = if with_all { Start::all(classes) } else { Start::Torus(torus) };
+        Lanes { count: 2, classes, tables: tables(fabric, classes, lane), start }
+    }
+
+    /// As many lanes as classes, each of which has its own.
+    pub fn by_class(fabric: &Fabric, classes: usize) -> Lanes {
+        let tables = tables(fabric, classes, |_, class| class as u8);
+        Lanes { count: classes, classes, tables, start: Start::all(classes) }
+    }
+
+    /// The lanes of a switch.
     #[inline]
-    pub fn lane(&self, f: &Fabric, t: usize, j: u8, q: u8, class: usize) -> u8 {
-        let side = f.switches[t].ports as usize + 1;
-        self.table[t][(j as usize * side + q as usize) * self.classes + class]
+    pub fn of(&self, fabric: &Fabric, switch: usize) -> SwitchLanes<'_> {
+        let side = usize::from(fabric.switches[switch].ports) + 1;
+        SwitchLanes { table: &self.tables[switch], side, classes: self.classes }
     }
-    pub fn start(&self, f: &Fabric, s: usize, _d: usize, owner: Owner) -> u16 {
-        match &self.by {
-            Start::Mask(m) => *m,
+
+    /// The classes with which all end ports at a switch send to an owner; none if they differ by pairs.
+    pub fn starting(&self, fabric: &Fabric, switch: usize, owner: Owner) -> u16 {
+        match &self.start {
+            Start::Mask(mask) => *mask,
             Start::Pairs(_) => 0,
-            Start::Torus(dims) => {
-                let t = match owner {
-                    Owner::Host(h) => f.hosts[h as usize].switch,
-                    Owner::Switch(t) => t as usize,
-                    Owner::None => 0,
+            Start::Torus(torus) => {
+                let target = match owner {
+                    Owner::Host(host) => fabric.hosts[host as usize].switch,
+                    Owner::Switch(target) => target as usize,
                 };
-                1 << torus_level(dims, s, t)
+                1 << torus.crossed(switch, target)
             }
         }
     }
-    /// For each slot of a port out and each class, the lanes with which the end ports at the switch begin by it.
-    pub fn starting(&self, f: &Fabric) -> Vec<u16> {
-        let mut all = vec![0u16; f.far.len() * self.classes];
-        for s in 0..f.switches.len() {
-            for j in 0..=f.switches[s].ports {
-                if j == 0 || matches!(f.far(s, j), Far::Host(_)) {
-                    for q in 1..=f.switches[s].ports {
-                        for c in 0..self.classes {
-                            all[(f.base[s] as usize + q as usize) * self.classes + c] |=
-                                1 << self.lane(f, s, j, q, c);
-                        }
-                    }
-                }
-            }
-        }
-        all
+}
+
+/// The lanes of a switch.
+#[derive(Clone, Copy)]
+pub struct SwitchLanes<'a> {
+    table: &'a [u8],
+    /// One more than its greatest port.
+    side: usize,
+    classes: usize,
+}
+
+impl<'a> SwitchLanes<'a> {
+    /// The lanes of all ports out and classes for a port in.
+    pub fn from_port(self, entry: u8) -> &'a [u8] {
+        let length = self.side * self.classes;
+        &self.table[usize::from(entry) * length..][..length]
+    }
+
+    /// The lanes of all classes from a port in to a port out.
+    #[inline]
+    pub fn classes(self, entry: u8, exit: u8) -> &'a [u8] {
+        &self.table[self.place(entry, exit)..][..self.classes]
+    }
+
+    /// The lane of a class from a port in to a port out.
+    #[inline]
+    pub fn lane(self, entry: u8, exit: u8, class: usize) -> u8 {
+        self.table[self.place(entry, exit) + class]
+    }
+
+    #[inline]
+    fn place(self, entry: u8, exit: u8) -> usize {
+        (usize::from(entry) * self.side + usize::from(exit)) * self.classes
     }
 }
 
-/// For each dimension a bit: whether the shortest way crosses the dateline.
-pub fn torus_level(dims: &[usize; 3], s: usize, t: usize) -> usize {
-    let of = |s: usize| [s / (dims[1] * dims[2]), s / dims[2] % dims[1], s % dims[2]];
-    let (a, b) = (of(s), of(t));
-    let mut level = 0;
-    for k in 0..3 {
-        let fw = (b[k] + dims[k] - a[k]) % dims[k];
-        let plus = 2 * fw <= dims[k];
-        let crosses = if plus { b[k] < a[k] } else { b[k] > a[k] };
-        if crosses {
-            level |= 1 << k;
-        }
-    }
-    level
-}
-
-/// Torus lanes: the bit of the service level that the dimension of the port out has.
-pub fn torus(f: &Fabric, dims: [usize; 3], all: bool) -> Lanes {
-    let table = f
-        .switches
-        .iter()
-        .map(|s| {
-            let side = s.ports as usize + 1;
-            let mut t = vec![0u8; side * side * 8];
-            for j in 0..side {
-                for q in 1..side {
-                    for c in 0..8 {
-                        t[(j * side + q) * 8 + c] = if q <= 6 { (c >> ((q - 1) / 2) & 1) as u8 } else { 0 };
-                    }
-                }
-            }
-            t
-        })
-        .collect();
-    Lanes { lanes: 2, classes: 8, table, by: if all { Start::Mask(0xff) } else { Start::Torus(dims) } }
-}
-
-/// Each class has the lane of its number.
-pub fn equal(f: &Fabric, classes: usize, mask: u16) -> Lanes {
-    let table = f
-        .switches
-        .iter()
-        .map(|s| {
-            let side = s.ports as usize + 1;
-            (0..side * side * classes).map(|i| (i % classes) as u8).collect()
-        })
-        .collect();
-    Lanes { lanes: classes, classes, table, by: Start::Mask(mask) }
+/// The tables of lanes that a port out and a class have.
+fn tables(fabric: &Fabric, classes: usize, lane: impl Fn(usize, usize) -> u8) -> Vec<Vec<u8>> {
+    let table = |ports: u8| {
+        let side = usize::from(ports) + 1;
+        let row = (0..side * classes).map(|place| lane(place / classes, place % classes));
+        row.collect::<Vec<u8>>().repeat(side)
+    };
+    fabric.switches.iter().map(|switch| table(switch.ports)).collect()
 }

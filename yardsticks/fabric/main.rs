@@ -13,7 +13,8 @@ mod front;
 mod gen;
 mod graph;
 mod hop;
-mod judge;
+mod lane_walk;
+mod lane_waves;
 mod lanes;
 mod least_hops;
 mod model;
@@ -34,11 +35,14 @@ use components::{components, NONE};
 use cycle::least_cycle;
 use graph::{Channels, Graph};
 use hop::End;
-use judge::{sources, walk_lanes, waves_lanes};
+use lane_walk::walk_lanes;
+use lane_waves::waves_lanes;
+use lanes::Lanes;
 use model::Fabric;
 use ranks::{are_ranks, ranks, Cyclic};
 use std::fs::File;
 use std::io::{BufReader, BufWriter, Write};
+use torus::Torus;
 use traffic::{Sources, Traffic};
 use walk::{walk, Arrival};
 use waves::waves;
@@ -95,9 +99,9 @@ fn compare_waves(src: &Sources, g: &Graph, a: &Arrival) {
 }
 
 /// Judges, in both ways or, if it is to be done `once`, by the walk alone and without looking at the ranks again.
-fn judge_it(f: &Fabric, traffic: Traffic, lane: Option<lanes::Lanes>, cert: Option<&str>, once: bool) -> i32 {
+fn judge_it(f: &Fabric, traffic: Traffic, lane: Option<Lanes>, cert: Option<&str>, once: bool) -> i32 {
     let src = Sources::new(f, traffic);
-    let n_lanes = lane.as_ref().map_or(1, |l| l.lanes);
+    let n_lanes = lane.as_ref().map_or(1, |l| l.count);
     let t0 = Instant::now();
     let mut g = Graph::new(f, 1);
     let a = walk(&src, &mut g);
@@ -107,13 +111,12 @@ fn judge_it(f: &Fabric, traffic: Traffic, lane: Option<lanes::Lanes>, cert: Opti
         compare_waves(&src, &g, &a);
     }
     if let Some(l) = &lane {
-        let src = sources(f, traffic);
         let tw = Instant::now();
         let mut gl = Graph::new(f, n_lanes);
-        let groups = waves_lanes(f, &src, l, &mut gl);
+        let groups = waves_lanes(&src, l, &mut gl);
         eprintln!("# waves with lanes {:.2} s, groups {groups}", tw.elapsed().as_secs_f64());
         g = Graph::new(f, n_lanes);
-        let d = walk_lanes(f, &src, l, &mut g);
+        let d = walk_lanes(&src, l, &mut g);
         eprintln!("# walk with lanes {:.2} s, discards {d}", t1.elapsed().as_secs_f64());
         assert!(gl == g);
     }
@@ -206,15 +209,12 @@ fn main() {
                 f.hosts.len(),
                 f.lft.len() as f64 / 1048576.0
             );
-            let dims = || [w[4].parse().unwrap(), w[5].parse().unwrap(), w[6].parse().unwrap()];
+            let torus = || Torus([4, 5, 6].map(|i: usize| w[i].parse().unwrap()));
             let lane = match w[2] {
                 "-" => None,
-                "torus" => Some(lanes::torus(&f, dims(), false)),
-                "torus-all" => Some(lanes::torus(&f, dims(), true)),
-                x => {
-                    let k: usize = x.parse().unwrap();
-                    Some(lanes::equal(&f, k, ((1u32 << k) - 1) as u16))
-                }
+                "torus" => Some(Lanes::of_torus(&f, torus(), false)),
+                "torus-all" => Some(Lanes::of_torus(&f, torus(), true)),
+                x => Some(Lanes::by_class(&f, x.parse().unwrap())),
             };
             std::process::exit(judge_it(&f, Traffic::named(w[1]), lane, None, false));
         }

@@ -135,6 +135,15 @@ impl Fabric {
         })
     }
 
+    /// The hosts at each switch.
+    pub fn hosts_by_switch(&self) -> Vec<Vec<usize>> {
+        let mut hosts = vec![Vec::new(); self.switches.len()];
+        for (place, host) in self.hosts.iter().enumerate() {
+            hosts[host.switch].push(place);
+        }
+        hosts
+    }
+
     /// The places of the switches by their GUIDs.
     pub fn places(&self) -> HashMap<u64, usize> {
         self.switches.iter().enumerate().map(|(place, switch)| (switch.guid, place)).collect()

@@ -80,10 +80,10 @@ pub fn read_lanes(fabric: &Fabric, lanes: impl BufRead, levels: Option<impl BufR
     let used = tables.iter().flatten().filter(|&&lane| lane < DISCARD);
     let greatest = used.max().copied().unwrap_or(0);
     let start = match levels {
-        None => Start::Mask(u16::MAX),
+        None => Start::all(LEVELS),
         Some(levels) => Start::Pairs(read_levels(fabric, levels)),
     };
-    Lanes { lanes: usize::from(greatest) + 1, classes: LEVELS, table: tables, by: start }
+    Lanes { count: usize::from(greatest) + 1, classes: LEVELS, tables, start }
 }
 
 /// Reads the lanes of each switch by ports in and out. Other nodes are passed over.

@@ -4,7 +4,7 @@ use crate::gen::{attach_hosts, switches};
 use crate::model::Fabric;
 
 /// How many axes a torus has.
-const AXES: usize = 3;
+pub const AXES: usize = 3;
 
 /// A torus with so many hosts at each switch. The routes of a mesh leave out the links between the ends of an axis.
 pub fn torus(sizes: [usize; AXES], hosts: usize, is_mesh: bool) -> Fabric {
@@ -31,7 +31,7 @@ pub fn torus(sizes: [usize; AXES], hosts: usize, is_mesh: bool) -> Fabric {
 
 /// A torus of these sizes. Each axis has two ports, up and down.
 #[derive(Clone, Copy)]
-struct Torus([usize; AXES]);
+pub struct Torus(pub [usize; AXES]);
 
 impl Torus {
     /// The place of a switch along each axis.
@@ -50,6 +50,19 @@ impl Torus {
     fn is_up(self, axis: usize, from: usize, to: usize) -> bool {
         let size = self.0[axis];
         2 * ((to + size - from) % size) <= size
+    }
+
+    /// For each axis a bit: whether the shorter way from a switch to another one crosses its ends.
+    pub fn crossed(self, from: usize, to: usize) -> usize {
+        let (from, to) = (self.place(from), self.place(to));
+        let crosses = |axis: usize| {
+            if self.is_up(axis, from[axis], to[axis]) {
+                to[axis] < from[axis]
+            } else {
+                to[axis] > from[axis]
+            }
+        };
+        (0..AXES).map(|axis| usize::from(crosses(axis)) << axis).sum()
     }
 
     /// Links a switch with those above it.
@@ -81,4 +94,9 @@ fn up(axis: usize) -> u8 {
 /// The port down along an axis.
 fn down(axis: usize) -> u8 {
     (2 * axis + 2) as u8
+}
+
+/// The axis along which a port leads.
+pub fn axis(port: usize) -> Option<usize> {
+    (1..=2 * AXES).contains(&port).then(|| (port - 1) / 2)
 }
