@@ -85,6 +85,11 @@ impl<'a> Channels<'a> {
         Channels { fabric, graph }
     }
 
+    /// How many lanes there are.
+    pub fn lanes(&self) -> usize {
+        self.graph.lanes
+    }
+
     /// How many nodes there are. Those of ports that lead to no switch are no channels.
     pub fn nodes(&self) -> usize {
         self.fabric.far.len() * self.graph.lanes
