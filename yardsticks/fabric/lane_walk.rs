@@ -209,7 +209,7 @@ fn first_lanes(fabric: &Fabric, lanes: &Lanes, hosts: &[Vec<usize>]) -> Vec<u16>
         let ports = hosts.iter().map(|&host| fabric.hosts[host].port);
         for entry in std::iter::once(0).chain(ports) {
             let slots = &mut first[fabric.slot(switch, 0) * lanes.classes..];
-            for (set, &lane) in slots.iter_mut().zip(own.from_port(entry)) {
+            for (set, &lane) in slots.iter_mut().zip(own.of_port(entry)) {
                 *set |= 1 << lane;
             }
         }

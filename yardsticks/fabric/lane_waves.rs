@@ -48,7 +48,7 @@ impl Groups {
             let own = lanes.of(fabric, switch);
             let first = least.len();
             for entry in 0..=it.ports {
-                let is_same = |&(_, other): &(usize, u8)| own.from_port(other) == own.from_port(entry);
+                let is_same = |&(_, other): &(usize, u8)| own.of_port(other) == own.of_port(entry);
                 let found = least[first..].iter().position(is_same);
                 let group = found.map_or(least.len(), |place| first + place);
                 if found.is_none() {

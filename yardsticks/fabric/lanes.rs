@@ -89,7 +89,7 @@ pub struct SwitchLanes<'a> {
 
 impl<'a> SwitchLanes<'a> {
     /// The lanes of all ports out and classes for a port in.
-    pub fn from_port(self, entry: u8) -> &'a [u8] {
+    pub fn of_port(self, entry: u8) -> &'a [u8] {
         let length = self.side * self.classes;
         &self.table[usize::from(entry) * length..][..length]
     }
