@@ -42,7 +42,7 @@ use lanes::Lanes;
 use measure::timed;
 use model::Fabric;
 use std::fs::File;
-use std::io::{BufReader, BufWriter};
+use std::io::{BufRead, BufReader, BufWriter};
 use std::process::ExitCode;
 use torus::Torus;
 use traffic::Traffic;
@@ -74,9 +74,19 @@ fn open(path: &str) -> BufReader<File> {
     BufReader::new(File::open(path).unwrap())
 }
 
+/// Reads a topology as `ibnetdiscover` prints it, or OpenSM's list of a subnet, which begins with a brace.
+fn read_topology(path: &str) -> Fabric {
+    let mut file = open(path);
+    if file.fill_buf().unwrap().starts_with(b"{") {
+        opensm::read_subnet(file)
+    } else {
+        topology::read_topology(file)
+    }
+}
+
 /// Judges a topology and tables as tools print them.
 fn judge_files(topology: &str, tables: &str, rest: &[&str], once: bool) -> u8 {
-    let (mut fabric, seconds) = timed(|| topology::read_topology(open(topology)));
+    let (mut fabric, seconds) = timed(|| read_topology(topology));
     let (read, table_seconds) = timed(|| tables::read_tables(&mut fabric, File::open(tables).unwrap(), true));
     let sums = match read {
         Ok(sums) => sums,
@@ -151,7 +161,7 @@ fn write_fabric(form: &str, prefix: &str, kind: &[&str]) -> u8 {
 
 /// Reads a topology and tables, and does nothing else.
 fn parse(topology: &str, tables: &str) -> u8 {
-    let mut fabric = topology::read_topology(open(topology));
+    let mut fabric = read_topology(topology);
     let tables = File::open(tables).unwrap();
     let (sums, seconds) = timed(|| tables::read_tables(&mut fabric, tables, false).unwrap());
     println!("{} entries {seconds:.2} s {:.0} MB/s", sums.entries, sums.bytes as f64 / seconds / 1e6);
