@@ -107,11 +107,22 @@ want_rt() {
     fi
 }
 
-# Proves and builds the program $1, after the wrapper's own words about it (announce), or ends with 126 or 127.
+# Proves and builds the program $1, after the wrapper's own words about it (announce), or ends with 126 or 127. If another
+# call of the wrapper builds, this one first waits for it. What such a call locks is the log.
 want_program() {
     want_rt
+    mkdir -p "$out" && true >> "$log" || { say "not built: there is no writing into $out"; exit 126; }
+    exec 9>> "$log"
+    flock -n 9 || { say "another call is building; this one waits for it"; flock 9; }
+    is_current "$1" || build_anew "$1"
+    exec 9>&-
+}
+
+# Proves and builds the program $1 with a log of its own, or ends with 126.
+build_anew() {
     begun=$out/$1.begun # a source that is saved from now on is newer than the program
-    mkdir -p "$out" && : > "$log" && : > "$begun" || { say "not built: there is no writing into $out"; exit 126; }
+    : > "$log"
+    : > "$begun"
     announce "$1"
     started=$(date +%s)
     ticker=
