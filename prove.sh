@@ -1,4 +1,4 @@
-# The part of ./autonet and of ./fabric that proves and builds a program, and tells the version. Whoever reads it sets
+# The part of ./autonet and of ./fabric that proves and builds a program, tries one, and tells the version. Whoever reads it sets
 # name, the name of the wrapper, and root, out and log, its folders and the log of a build; and sample, a word with which
 # a program is run once.
 # shellcheck shell=sh disable=SC2154
@@ -36,11 +36,22 @@ crates() {
         }' "$root/crates.txt"
 }
 
-# Whether the program $1 is built, of the sources that there are now. (A program has no specs/ and no proofs/.)
-is_current() {
+# What the program $1 is made of: the kit, and each source with its size and time. (A program has no specs/ and no
+# proofs/.) If there is no kit in the path it is the one by which the program is made.
+made_of() {
+    if rt=$(command -v rt); then
+        echo "kit $(cat "$(dirname "$(readlink -f "$rt")")/../KIT-ID" 2> /dev/null)"
+    else
+        sed -n '/^kit /p' "$out/.$1.made-of" 2> /dev/null
+    fi
     # shellcheck disable=SC2046 # (names of crates have no spaces)
-    [ -x "$out/$1" ] && (cd "$root/crates" && [ -z "$(find ../crates.txt \
-        $(crates "$1" | sed 's|.*|&/src &/specs &/proofs|') -newer "$out/$1" -print -quit 2> /dev/null)" ])
+    (cd "$root/crates" && find ../crates.txt ../HANDLES $(crates "$1" | sed 's|.*|&/src &/specs &/proofs|') \
+        -printf '%p %s %T@\n' 2> /dev/null | LC_ALL=C sort)
+}
+
+# Whether the program $1 is built, by the kit and of the sources that there are now.
+is_current() {
+    [ -x "$out/$1" ] && made_of "$1" | cmp -s - "$out/.$1.made-of"
 }
 
 # How many crates are begun at a time: three for two processors, since those that wait for others below them are counted
@@ -71,11 +82,31 @@ show() {
     done
 }
 
-# Proves the program $1 and the crates below it, several at a time, and builds it.
-prove() (
+# Runs a command in a process group of its own, and answers its status; a signal to this shell ends the group.
+run() {
+    setsid "$@" &
+    group=$!
+    wait "$group"
+}
+
+# Ends the process group of `run`, if there is one.
+end_group() {
+    [ -z "$group" ] || kill -TERM "-$group" 2> /dev/null
+}
+
+# Proves the program $1 and the crates below it, several at a time, and builds it, in a shell of its own.
+prove() {
+    group=
+    trap 'end_group; exit 143' TERM
     cd "$root/crates/$1" || exit
-    rt all check --jobs "$(most_jobs)" && { rt run -- "$sample" || [ -x "out/$1" ]; }
-) < /dev/null >> "$log" 2>&1
+    run rt all check --jobs "$(most_jobs)" && { run rt run -- "$sample" || [ -x "out/$1" ]; }
+}
+
+# Ends what shows the progress. It may not have left its parent's traps yet, so that no other signal is sure to end it.
+end_ticker() {
+    [ -z "$ticker" ] || { kill -KILL "$ticker"; wait "$ticker"; } 2> /dev/null
+    ticker=
+}
 
 # Proves and builds the program $1.
 build() {
@@ -85,17 +116,18 @@ build() {
     set -- $(crates "$program")
     progress $#
     [ -t 2 ] || echo >&2
-    show $# &
+    show $# 9>&- &
     ticker=$!
-    prove "$program"
+    prove "$program" < /dev/null >> "$log" 2>&1 9>&- &
+    prover=$!
+    wait "$prover"
     status=$?
-    kill "$ticker"
-    wait "$ticker" 2> /dev/null
-    ticker=
+    prover=
+    end_ticker
     [ ! -t 2 ] || printf '\r\033[K' >&2
     [ "$status" = 0 ] &&
-        cp "$root/crates/$program/out/$program" "$out/$program.new" &&
-        touch -r "$begun" "$out/$program.new" && mv "$out/$program.new" "$out/$program"
+        cp "$root/crates/$program/out/$program" "$out/$program.new" && mv "$out/$program.new" "$out/$program" &&
+        mv "$begun" "$out/.$program.made-of"
 }
 
 # Sees to it that there is an rt.
@@ -118,17 +150,62 @@ want_program() {
     exec 9>&-
 }
 
+# Ends a build that goes on: what it began, and what shows its progress.
+end_build() {
+    [ -z "$prover" ] || { kill -TERM "$prover"; wait "$prover"; } 2> /dev/null
+    [ -z "$ticker" ] || [ ! -t 2 ] || echo >&2
+    end_ticker
+}
+
+# Says that a program is not built, and where one can see why: rt says something in any case, if there is room for it.
+say_unbuilt() {
+    say "not built, see $log"
+    [ -s "$log" ] || say "nothing could be written there: is the disk full?"
+}
+
 # Proves and builds the program $1 with a log of its own, or ends with 126.
 build_anew() {
-    begun=$out/$1.begun # a source that is saved from now on is newer than the program
+    begun=$out/$1.begun # a source that is saved from now on is no more what the program is made of
     : > "$log"
-    : > "$begun"
+    made_of "$1" > "$begun"
     announce "$1"
     started=$(date +%s)
     ticker=
-    trap 'rm -f "$begun"; [ -z "$ticker" ] || { kill "$ticker" 2> /dev/null; [ ! -t 2 ] || echo >&2; }' EXIT
+    prover=
+    trap 'rm -f "$begun"; end_build' EXIT
     trap 'exit 130' HUP INT TERM
-    build "$1" || { say "not built, see $log"; exit 126; }
+    build "$1" || { say_unbuilt; exit 126; }
     rm -f "$begun"
     trap - EXIT HUP INT TERM
+}
+
+# What a try says every ten seconds, as long as the wrapper lives.
+show_try() {
+    seconds=0
+    while sleep 1 && kill -0 $$ 2> /dev/null; do
+        seconds=$((seconds + 1))
+        [ $((seconds % 10)) != 0 ] || say "no answer yet, $seconds s"
+    done
+}
+
+# Hands on to err what rt says, but for the two lines that it adds at the end, and ends with the status in the last line.
+own_lines() {
+    awk '/^checked: ended status=[0-9]+$/ || /^run=ended status=[0-9]+ / { next }
+        /^\001/ { status = substr($0, 2); next }
+        { print > "/dev/stderr" }
+        END { exit status }'
+}
+
+# Answers words by the program of the crate $1, of which nothing is proved, and ends with its status.
+try_program() {
+    cd "$root/crates/$1" || exit 126
+    shift
+    say "nothing is proved of the program that answers now; it has 60 seconds, and hands on up to 1 MiB"
+    show_try &
+    ticker=$!
+    exec 8>&1
+    { rt try -- "$@" 2>&1 >&8 8>&-; printf '\001%s\n' $?; } | own_lines
+    status=$?
+    end_ticker
+    exit "$status"
 }

@@ -13,3 +13,4 @@ pub mod OwnApart
 pub mod OwnPass
 pub mod OwnLaw
 pub mod OneJudgement
+pub mod TextSays

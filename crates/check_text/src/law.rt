@@ -8,13 +8,14 @@ ghost use Rattle.table_script.specs.TableTexts.{IsTextWith};
 ghost use Rattle.net_script.specs.Texts.{IsText};
 ghost use Rattle.topo_graph.specs.Topology.{IsGraph, IsTree};
 ghost use Rattle.switch_numbering.specs.Numbering.{numbering};
+ghost use Rattle.dep_check.specs.Answer.{Passes};
 ghost use Rattle.dep_check.specs.Channels.{far_at, LeadsTo};
 ghost use Rattle.channel_graph.specs.Cycles.{HasNoCycle, Walk};
 ghost use Rattle.dep_check.specs.Illegal.{AllAreLegal};
 ghost use Rattle.dep_check.specs.Laws.{GoesBetween};
 ghost use Rattle.dep_check.specs.Packets.{AllAreJoined, GoesOn};
 ghost use Rattle.dep_check.specs.declared.channel.Channel.{Channel};
-ghost use Rattle.check_text.specs.Check.{IsJudged};
+ghost use Rattle.check_text.specs.Check.{AllPass, IsJudged, numbers_of, Ranked, rows_of};
 ghost use Rattle.expect_text.specs.Expect.{all_rows, IsExpectOf, Part};
 
 /// What is expected of a script, for each of its components. The entries are a graph, with each member
@@ -61,4 +62,23 @@ pub fn what_is_expected_passes()
 pub fn one_judgement()
     ensures { (s : ScriptOf) (t : TablesOf) (passed other : Bool) (text out : List ℕ) → IsScript s
         → IsJudged s t passed text → IsJudged s t other out → (passed ≡ other) × (text ≡ out) }
+{}
+
+/// What a text with tables says is a script. If all its tables pass, each component is a graph, with each member
+/// at its place in the tree of shortest walks to the least life. The numbers that the tables give to its members
+/// are as many different ones of 1 to 126, and over these its rows pass. So whatever is so of rows that pass,
+/// as that packets in finite channels never lock up, is so of these.
+pub fn what_passes_is_a_topology()
+    ensures script { (bytes : List ℕ) (s : ScriptOf) (t : TablesOf) → IsTextWith bytes s t → IsScript s }
+    ensures tree { (bytes : List ℕ) (s : ScriptOf) (t : TablesOf) (text : List ℕ) (is : AllPass s t text)
+        (part : Ranked) → IsTextWith bytes s t → Contains is.parts part
+        → IsGraph part.entries × IsTree part.entries }
+    ensures numbers { (bytes : List ℕ) (s : ScriptOf) (t : TablesOf) (text : List ℕ) (is : AllPass s t text)
+        (part : Ranked) → IsTextWith bytes s t → Contains is.parts part
+        → AreNumbers (numbers_of s.wires.switches t part.entries)
+        × (length (numbers_of s.wires.switches t part.entries) ≡ length part.entries) }
+    ensures passes { (s : ScriptOf) (t : TablesOf) (text : List ℕ) (is : AllPass s t text) (part : Ranked)
+        → Contains is.parts part
+        → Passes part.entries (numbers_of s.wires.switches t part.entries)
+        (rows_of s.wires.switches t part.entries) part.ranks }
 {}

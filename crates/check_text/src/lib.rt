@@ -4,8 +4,8 @@
 //! of what is expected.
 //!
 //! Its contract: if the tables of each component pass the text has the ranks of all channels, and else the
-//! line of why those of the first that is refused are; tables have one judgement; and what is expected of a
-//! script, after its text, is never refused.
+//! line of why those of the first that is refused are; tables have one judgement; what passes is a topology for
+//! the laws on rows; and what is expected of a script, after its text, is never refused.
 #![tactic(auto)]
 
 pub mod check;

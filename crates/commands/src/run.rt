@@ -149,10 +149,10 @@ fn status_of<R: Threads + Wait + Sync, G: Gate, S: Source, O: Sink>(
 }
 
 /// Answers `run`: reads a script from the source, runs its network with a worker for each switch, and writes the
-/// journal of the run, and after it its report, to out. Of up to four switches each worker has a thread of its own;
-/// of more, two threads have half of them each. `gate` is called round each turn of a worker. The answer is
-/// the number of a status, whose line goes to err. It may never answer, as `switch_threads::run` may never
-/// return.
+/// journal of the run, and after it its report, to out. `gate` is called round each turn of a worker. Of up to four
+/// switches each worker has a thread of its own, and of more if workers may wait for one another at the gate; else
+/// two threads have half of them each. The answer is the number of a status, whose line goes to err. It may
+/// never answer, as `switch_threads::run` may never return.
 ///
 /// If the source fails or has more bytes than the limit, if it gives no script, or if memory is wanting, out
 /// is left alone. No thread is started before the whole script is read.

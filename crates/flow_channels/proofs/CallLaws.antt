@@ -1,4 +1,4 @@
--- A packet goes out no more often than the ranks allow, whatever enters between the turns.
+-- A packet goes out no more often than the ranks allow, whatever enters between the moves.
 use Rattle.std.proofs.Common.{◌≡◌, ◌≢◌, ◌∙◌, sym, subst, refl, ℕ, suc, ◌+◌, ◌≤◌, List, [], ◌∷◌, ◌++◌, Option, Some, false, arith, inl, inr, ◌==◌}
 use Rattle.std.specs.Prelude.{Contains}
 use Rattle.std.proofs.lemmas.Bool.{cases_eq}
@@ -15,7 +15,7 @@ use Rattle.flow_channels.specs.Flows.{FlowOf, WaitOf, waiting_at}
 use Rattle.flow_channels.specs.Moves.{Move, IsPossible, went_by}
 use Rattle.flow_channels.specs.Moves.Move.{Arrives, Goes}
 use Rattle.flow_channels.specs.Runs.{Act, Comes, entered, greatest, hops_in, hops_of}
-use Rattle.flow_channels.specs.Runs.Act.{Enter, Turn}
+use Rattle.flow_channels.specs.Runs.Act.{Enter, Make}
 use Rattle.flow_channels.specs.Sound.{IsInIfStarts, IsSound, WaitsThere}
 use Rattle.flow_channels.proofs.StateLemmas.{waiting_each}
 use Rattle.flow_channels.proofs.SoundLaws.{comes_sound, got, wait_known}
@@ -43,9 +43,9 @@ module _ (layout : LayoutOf) (ranks : List (Option ℕ)) (wired : IsWired layout
   none_before limit [] flow comes unknown = refl
   none_before limit (Enter packet from to ∷ acts) flow (old, comes, may, is) unknown =
       none_before limit acts old comes (λ has. unknown (suc has.0, (let low = has.1 in omega arith), has.2))
-  none_before limit (Turn went ∷ acts) flow (old, comes, turn) unknown =
+  none_before limit (Make move went ∷ acts) flow (old, comes, possible, went_is, is) unknown =
       let sound = comes_sound layout limit acts old wired comes in
-      let here = move_unknown (entered acts) old turn.move went sound turn.next.possible turn.went_is unknown in
+      let here = move_unknown (entered acts) old move went sound possible went_is unknown in
       let before = none_before limit acts old comes unknown in
       omega arith
 
@@ -78,16 +78,16 @@ module _ (layout : LayoutOf) (ranks : List (Option ℕ)) (wired : IsWired layout
           sum = sum;
         }
       ]
-  counted limit (Turn went ∷ acts) flow (old, comes, turn) =
+  counted limit (Make move went ∷ acts) flow (old, comes, possible, went_is, is) =
       let sound = comes_sound layout limit acts old wired comes in
       let before = counted limit acts old comes in
-      let step = move_few layout ranks wired ranked (entered acts) k before.left old turn.move went sound turn.next.possible turn.went_is before.few in
+      let step = move_few layout ranks wired ranked (entered acts) k before.left old move went sound possible went_is before.few in
       let first = hops_first layout ranks wired ranked (entered acts) k went [] in
       let sum = step.sum in
       let most = before.sum in
       record {
         left = step.left;
-        few = subst (λ (f : FlowOf). Few layout ranks wired ranked (entered acts) k step.left f) (sym turn.after_is) step.few;
+        few = subst (λ (f : FlowOf). Few layout ranks wired ranked (entered acts) k step.left f) (sym is) step.few;
         sum = omega arith;
       }
 

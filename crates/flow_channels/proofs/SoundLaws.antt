@@ -19,7 +19,7 @@ use Rattle.flow_channels.specs.declared.went.Went.{Went}
 use Rattle.flow_channels.specs.Moves.{Move, CanArrive, CanGo, IsPossible, IsTurn, after}
 use Rattle.flow_channels.specs.Moves.Move.{Arrives, Goes}
 use Rattle.flow_channels.specs.Runs.{Act, Comes, entered}
-use Rattle.flow_channels.specs.Runs.Act.{Enter, Turn}
+use Rattle.flow_channels.specs.Runs.Act.{Enter, Make}
 use Rattle.flow_channels.specs.Sound.{IsSound, IsOnWay, IsFirst, IsBroughtBy, WaitsThere, FirstWaits, ComesBy, IsIn, IsInIfStarts, AreApart, WaitApart}
 use Rattle.flow_channels.proofs.ExitLemmas.{list_cases, exit_has, first_in}
 use Rattle.flow_channels.proofs.StateLemmas.{spot_cases, queue_here, queue_there, waiting_here, queue_each, waiting_each, all_remove, contains_remove, apart_remove}
@@ -652,4 +652,5 @@ comes_sound layout limit [] flow wired same = subst (λ (f : FlowOf). IsSound la
 comes_sound layout limit (Enter packet from to ∷ acts) flow wired (old, comes, may, is) =
     let before = comes_sound layout limit acts old wired comes in
     subst (λ (f : FlowOf). IsSound layout (packet ∷ entered acts) f) (sym is) (enter_sound layout wired (entered acts) packet from to old before may.new may.from_in may.to_in may.apart)
-comes_sound layout limit (Turn went ∷ acts) flow wired (old, comes, turn) = turn_sound layout wired (entered acts) old flow went (comes_sound layout limit acts old wired comes) turn
+comes_sound layout limit (Make move went ∷ acts) flow wired (old, comes, possible, went_is, is) =
+    subst (λ (f : FlowOf). IsSound layout (entered acts) f) (sym is) (move_sound layout wired (entered acts) old move (comes_sound layout limit acts old wired comes) possible)

@@ -1,22 +1,22 @@
--- Flows that come about: packets enter, and turns are made.
-use Rattle.std.specs.Prelude.{◌≡◌, ◌≢◌, ◌==◌, ◌<◌, ◌+◌, ◌*◌, max, ℕ, suc, List, [], ◌∷◌, Option, Contains}
+-- Flows that come about: packets enter, and moves are made in any order.
+use Rattle.std.specs.Prelude.{◌≡◌, ◌≢◌, ◌==◌, ◌<◌, ◌+◌, ◌*◌, max, ℕ, suc, List, [], ◌∷◌, Option, Some, Contains}
 use Rattle.std.specs.Prelude.{length, unwrap_or, if◌then◌else◌}
 use Rattle.flow_channels.specs.declared.went.Went.{Went}
 use Rattle.flow_channels.specs.declared.went.Went.TheVariants.{Arrived, Out}
 use Rattle.flow_channels.specs.Layout.{LayoutOf}
 use Rattle.flow_channels.specs.Flows.{FlowOf, PacketOf, all_starting, empty_flow, enters}
-use Rattle.flow_channels.specs.Moves.{IsTurn}
+use Rattle.flow_channels.specs.Moves.{Move, IsPossible, after, went_by}
 
--- a packet enters at a switch towards another one, or there is a turn
+-- a packet enters at a switch towards another one; or a move is made, by which a packet goes as is said
 pub data Act : Type 0 where
   Enter : (packet from to : ℕ) → Act
-  Turn : (went : Went) → Act
+  Make : (move : Move) (went : Went) → Act
 
 -- the packets that entered, by a list of acts, the newest first
 abbrev pub entered : List Act → List ℕ
 entered [] = []
 entered (Enter packet from to ∷ acts) = packet ∷ entered acts
-entered (Turn went ∷ acts) = entered acts
+entered (Make move went ∷ acts) = entered acts
 
 -- the condition of entering: the packet has not entered, and the two are different switches of the topology
 pub record MayEnter (layout : LayoutOf) (limit : ℕ) (before : List ℕ) (packet from to : ℕ) : Type 0 where
@@ -26,14 +26,16 @@ pub record MayEnter (layout : LayoutOf) (limit : ℕ) (before : List ℕ) (packe
   pub to_in : Contains layout.numbers to
   pub apart : from ≢ to
 
--- the flow comes about by these acts, the newest first
+-- The flow comes about by these acts, the newest first. Each move that is made is possible then; it need
+-- not be the next one.
 abbrev pub Comes : LayoutOf → ℕ → List Act → FlowOf → Type 0
 Comes layout limit [] flow = flow ≡ empty_flow
 Comes layout limit (Enter packet from to ∷ acts) flow =
     (old : FlowOf) × Comes layout limit acts old × MayEnter layout limit (entered acts) packet from to
     × (flow ≡ enters packet from to old)
-Comes layout limit (Turn went ∷ acts) flow =
-    (old : FlowOf) × Comes layout limit acts old × IsTurn layout old went flow
+Comes layout limit (Make move went ∷ acts) flow =
+    (old : FlowOf) × Comes layout limit acts old × IsPossible layout old move
+    × (went_by old move ≡ Some went) × (flow ≡ after layout move old)
 
 -- the greatest rank of all
 abbrev pub greatest : List (Option ℕ) → ℕ
@@ -60,4 +62,4 @@ hops_of packet (Out other at exit ∷ rest) = (if other == packet then 1 else 0)
 abbrev pub hops_in : ℕ → List Act → ℕ
 hops_in packet [] = 0
 hops_in packet (Enter other from to ∷ acts) = hops_in packet acts
-hops_in packet (Turn went ∷ acts) = hops_of packet (went ∷ []) + hops_in packet acts
+hops_in packet (Make move went ∷ acts) = hops_of packet (went ∷ []) + hops_in packet acts

@@ -1,12 +1,13 @@
 //! What holds of flows, above all over rows that pass. No function here has code.
 
-ghost use Rattle.std.specs.Prelude.{◌≡◌, ◌≢◌, ◌+◌, ◌≤◌, ℕ, List, [], Option, Some, length};
+ghost use Rattle.std.specs.Prelude.{◌≡◌, ◌≢◌, ◌+◌, ◌≤◌, ℕ, Bool, List, [], Option, Some, length};
 ghost use Rattle.an_base.specs.Values.{EntryOf};
 ghost use Rattle.an_base.specs.Rows.{RowOf};
 ghost use Rattle.an_base.specs.Numbers.{AreNumbers};
-ghost use Rattle.topo_graph.specs.Topology.{IsGraph};
+ghost use Rattle.topo_graph.specs.Topology.{IsGraph, IsTree};
 ghost use Rattle.dep_check.specs.declared.channel.Channel.{Channel};
 ghost use Rattle.dep_check.specs.Answer.{Passes};
+ghost use Rattle.dep_check.specs.Laws.{AreTables};
 ghost use Rattle.dep_check.specs.Tables.{IsSpot, rank_at};
 ghost use Rattle.flow_channels.specs.declared.went.Went.{Went};
 ghost use Rattle.flow_channels.specs.Layout.{HasRanks, IsWired, JoinsAll, layout_of, LayoutOf};
@@ -15,8 +16,9 @@ ghost use Rattle.flow_channels.specs.Moves.{FirstCanMove, IsPossible, IsTurn, Mo
 ghost use Rattle.flow_channels.specs.Runs.{Act, Comes, entered, greatest, hops_in, hops_of, moves_left};
 ghost use Rattle.flow_channels.specs.Sound.{IsSound};
 
-/// Over rows that pass, whatever comes about is sound: each packet is on a way that the rows lead, the
-/// first one of each channel asks where it is brought, and no channel has more than it holds.
+/// Over rows that pass, whatever comes about is sound, in whatever order moves are made: each packet is on a
+/// way that the rows lead, the first one of each channel asks where it is brought, and no channel has more than
+/// it holds.
 pub fn what_comes_about_is_sound()
     ensures { (entries : List EntryOf) (numbers : List ℕ) (rows : List RowOf) (ranks : List (Option ℕ))
         (most limit : ℕ) (acts : List Act) (flow : FlowOf)
@@ -42,13 +44,24 @@ pub fn some_packet_can_move()
         → left_of flow ≢ 0 → (move : Move) × IsPossible layout flow move }
 {}
 
-/// Over rows that pass, whatever entered and whichever turns were made: while a packet is on its way, some
-/// packet can move.
-pub fn rows_that_pass_never_lock_up()
+/// Over rows that pass, whatever entered and whichever possible moves were made, in whatever order: while a
+/// packet is on its way, some packet can move.
+pub fn no_order_of_moves_locks_up()
     ensures { (entries : List EntryOf) (numbers : List ℕ) (rows : List RowOf) (ranks : List (Option ℕ))
         (most limit : ℕ) (acts : List Act) (flow : FlowOf)
         → IsGraph entries → AreNumbers numbers → length numbers ≡ length entries
         → Passes entries numbers rows ranks → 1 ≤ most
+        → Comes (layout_of entries numbers rows most) limit acts flow → left_of flow ≢ 0
+        → (move : Move) × IsPossible (layout_of entries numbers rows most) flow move }
+{}
+
+/// So it is over the rows of the tables of all members of a topology whose positions are the tree of its
+/// links: those that the switches load.
+pub fn tables_of_a_topology_never_lock_up()
+    ensures { (entries : List EntryOf) (numbers : List ℕ) (any : Bool) (rows : List RowOf) (most limit : ℕ)
+        (acts : List Act) (flow : FlowOf)
+        → IsGraph entries → IsTree entries → AreNumbers numbers → length numbers ≡ length entries
+        → AreTables entries numbers any rows → 1 ≤ most
         → Comes (layout_of entries numbers rows most) limit acts flow → left_of flow ≢ 0
         → (move : Move) × IsPossible (layout_of entries numbers rows most) flow move }
 {}
@@ -70,8 +83,8 @@ pub fn turns_end()
         → length went + moves_left ranks new ≤ moves_left ranks old }
 {}
 
-/// No packet goes out more often than one above the greatest rank: over all that enters and all turns,
-/// if the rows pass; and in the turns from any sound flow.
+/// No packet goes out more often than one above the greatest rank: over all that enters and all moves, in
+/// whatever order, if the rows pass; and in the turns from any sound flow.
 pub fn hops_are_few()
     ensures all { (entries : List EntryOf) (numbers : List ℕ) (rows : List RowOf) (ranks : List (Option ℕ))
         (most limit : ℕ) (acts : List Act) (flow : FlowOf) (packet : ℕ)

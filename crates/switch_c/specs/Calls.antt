@@ -58,11 +58,15 @@ pub record IsTaken (Comes : SwitchOf → (SwitchOf → Type 0) → OutOf → Typ
   pub loaded : new.loaded ≡ old.loaded
   pub lost : new.lost ≡ false
 
--- memory was wanting: the switch is as it was started, no frame goes out, and its life is over
+-- memory was wanting for a clock or a frame, which counts: the switch is as it was started, no frame goes out,
+-- and its life is over
 pub record IsLost (old new : Instance) : Type 0 where
   pub stands : StandsFor new.switch (started_as old.switch.start)
   pub start : new.switch.start ≡ old.switch.start
+  pub works : new.switch.works ≡ old.switch.works + 1
+  pub carried_is : carried new.switch ≡ 0
   pub out : new.out ≡ record { frames = []; noframe = false }
+  pub given : new.given ≡ 0
   pub loaded : new.loaded ≡ old.loaded
   pub lost : new.lost ≡ true
 

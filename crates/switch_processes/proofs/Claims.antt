@@ -154,4 +154,4 @@ settled lives members on did sending x one by few quiet = has_settled lives memb
     g = game_after on one.order
 
     joined : JoinedInGame members (slice (w.switches x).epoch g)
-    joined y n is = subst (λ (s : SwitchOf). IsJoinedBy members on did s.epoch) (sym (one.switches x)) by y (has_joined lives on did one.order one.interleaving one.happens y (w.switches x).epoch n is)
+    joined y n is = subst (λ (s : SwitchOf). IsJoinedBy members on did s.epoch) (sym (one.switches one.order (earlier_itself one.order) x ∙ ap (switch_after on x) (one.interleaving x))) by y (has_joined lives on did one.order one.interleaving one.happens y (w.switches x).epoch n is)

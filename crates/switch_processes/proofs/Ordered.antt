@@ -220,6 +220,12 @@ AllHappen lives on order = (past : List CallOf) → Earlier past order → Happe
 pub all_happen : (lives : List LifeId) (on : PowerOn) (order : List CallOf) → CanHappen lives on order → AllHappen lives on order
 all_happen lives on order can past earlier = happens_to lives on past (can_tail lives on order past earlier can)
 
+-- at an earlier moment of an order each life is at an earlier one of its own
+calls_earlier : (order past : List CallOf) (x : LifeId) → Earlier past order → Earlier (calls_of x past) (calls_of x order)
+calls_earlier [] past x is = subst (λ (o : List CallOf). Earlier (calls_of x o) []) (sym is) (earlier_itself [])
+calls_earlier (one ∷ order) past x (inl is) = subst (λ (o : List CallOf). Earlier (calls_of x o) (calls_of x (one ∷ order))) (sym is) (earlier_itself (calls_of x (one ∷ order)))
+calls_earlier (one ∷ order) past x (inr low) = earlier_trans (calls_of x past) (calls_of x order) (calls_of x (one ∷ order)) (calls_earlier order past x low) (calls_more one order x)
+
 -- one order of all, and of what was done up to a cut first
 with_start : (lives : List LifeId) (on : PowerOn) (did : LifeId → List Call) (sending : Event → Event) → IsRun lives on did sending → (start : List CallOf) → IsWhole did sending start → HasOneOrder lives on did sending
 with_start lives on did sending run start w = record {
@@ -227,7 +233,8 @@ with_start lives on did sending run start w = record {
   interleaving = w.interleaving;
   sent_before = w.ordered.sent;
   happens = all_happen lives on w.order (can_happen lives on did sending run w.order w.ordered);
-  switches = λ x. same_switch on w.order x ∙ ap (switch_after on x) (w.interleaving x);
+  moments = λ past earlier x. subst (Earlier (calls_of x past)) (w.interleaving x) (calls_earlier w.order past x earlier);
+  switches = λ past earlier x. same_switch on past x;
 }
 
 pub one_order : (lives : List LifeId) (on : PowerOn) (did : LifeId → List Call) (sending : Event → Event) → IsRun lives on did sending → HasNoCycle did sending → HasOneOrder lives on did sending

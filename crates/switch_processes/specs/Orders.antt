@@ -58,8 +58,8 @@ game_after on [] = begins on.epoch
 game_after on (one ∷ earlier) =
     call_moves one.life one.call ((network_after on earlier).switches one.life) (game_after on earlier)
 
--- There is one order of all that the processes did, by which it is a history of the network at each moment,
--- and each switch is what it is in its process
+-- There is one order of all that the processes did. At each moment of it, it is a history of the network, each
+-- life is at a moment of its process, and its switch is the one that its process has then.
 pub record HasOneOrder (lives : List LifeId) (on : PowerOn) (did : LifeId → List Call)
     (sending : Event → Event) : Type 0 where
   pub order : List CallOf
@@ -67,7 +67,10 @@ pub record HasOneOrder (lives : List LifeId) (on : PowerOn) (did : LifeId → Li
   pub sent_before : AreSentBefore sending order
   pub happens : (past : List CallOf) → Earlier past order
       → Happens lives (dark on) (begins on.epoch) (network_after on past) (game_after on past)
-  pub switches : (life : LifeId) → (network_after on order).switches life ≡ switch_after on life (did life)
+  pub moments : (past : List CallOf) → Earlier past order → (life : LifeId)
+      → Earlier (calls_of life past) (did life)
+  pub switches : (past : List CallOf) → Earlier past order → (life : LifeId)
+      → (network_after on past).switches life ≡ switch_after on life (calls_of life past)
 
 -- The order has all that was done up to a cut before all else, and the network goes on from there
 pub record Passes (lives : List LifeId) (on : PowerOn) (cut : LifeId → List Call) (order : List CallOf)

@@ -24,7 +24,7 @@ pub fn calls_are_those_of_a_process()
 /// If each process made its calls in an order of its own, each frame that came in is one that went out by an
 /// event, and no event happened before itself, then all calls have one order. It keeps the order of each
 /// process and has the sending of each frame before it comes in. At each moment of it, it is a history of the
-/// network of all lives, in which each life is the switch that its process has.
+/// network of all lives, in which each life is at a moment of its process, as the switch that this has then.
 pub fn processes_have_one_order()
     ensures { (lives : List LifeId) (on : PowerOn) (did : LifeId → List Call) (sending : Event → Event)
         → IsRun lives on did sending → HasNoCycle did sending → HasOneOrder lives on did sending }

@@ -6,10 +6,14 @@ use std::sync::Wait;
 /// the order of the script, and each worker's turns from 1 over the whole run; a number that has reached 2^64 - 1
 /// stays there.
 ///
-/// Of more than four switches several workers are in one thread. They make their turns one after the other, between
-/// the calls ahead of all these turns and those after all of them. So a worker is not to wait here for another one
-/// of its thread: it would wait for ever.
+/// A gate at which a worker may wait for another one says so, and each worker then has a thread of its own. At other
+/// gates several workers are in one thread if there are more than four. They make their turns one after the other,
+/// between the calls ahead of all these turns and those after all of them. No round ends while a worker waits, so
+/// it is not to wait for a turn that another one makes only in a later round.
 pub trait Gate: Sync {
+    /// Whether a worker may wait here for any other one.
+    fn waits(&self) -> bool;
+
     /// Called ahead of a turn.
     fn before<R: Wait>(&self, rt: &R, worker: u8, turn: u64);
 
@@ -17,11 +21,15 @@ pub trait Gate: Sync {
     fn after<R: Wait>(&self, rt: &R, worker: u8, turn: u64);
 }
 
-/// The gate that does nothing.
+/// The gate that does nothing. Nobody waits at it.
 #[derive(Clone, Copy)]
 pub struct Open;
 
 impl Gate for Open {
+    fn waits(&self) -> bool {
+        false
+    }
+
     fn before<R: Wait>(&self, _rt: &R, _worker: u8, _turn: u64) {}
 
     fn after<R: Wait>(&self, _rt: &R, _worker: u8, _turn: u64) {}

@@ -1,5 +1,6 @@
 //! A run of a network in threads, with a worker for each switch and a driver. Of up to four switches each worker
-//! has a thread of its own; of more, two threads have half of them each.
+//! has a thread of its own, and of more if workers may wait for one another at the gate; else two threads have
+//! half of them each.
 //!
 //! They share the book of the network (`fabric_book`) through a turnstile (`fabric_turn`); a worker owns all
 //! else that it needs: its seat, its switch and its buffers. The one contract: whatever interleaving the

@@ -4,7 +4,7 @@
 //! driver. Who is roused is a guess, and what a run gives does not rest on it: a worker that is roused for nothing
 //! finds nothing again, and all are roused again in each round, after the driver's steps.
 
-use an_base::limits::PORTS;
+use an_base::limits::{MOST_SWITCHES, PORTS};
 use an_base::place::Place;
 use an_base::port::Port;
 use net_graph::wiring::Far;
@@ -12,8 +12,8 @@ use net_script::script::Script;
 use std::mem::replace;
 use switch_core::out::FrameOut;
 
-/// The most parties that share the workers between them.
-pub(crate) const MOST_PARTIES: usize = 4;
+// The most parties that share the workers between them: one for each switch.
+const MOST_PARTIES: usize = MOST_SWITCHES;
 
 // The most workers that a party has.
 const MOST_WORKERS: usize = 64;
@@ -99,7 +99,8 @@ impl Rousing {
 
     /// Whether any worker is roused.
     pub fn has_any(&self) -> bool {
-        self.roused.iter().any(|roused| *roused != 0)
+        let mut parties = self.roused.iter().take(self.parties);
+        parties.any(|roused| *roused != 0)
     }
 
     /// The workers of a party that are roused, none of which is roused then any more.

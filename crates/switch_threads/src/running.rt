@@ -12,7 +12,7 @@ ghost use Rattle.switch_threads.specs.Runs.{IsSeatOf, IsWhole, driver_seat, firs
 
 use crate::driver::Driver;
 use crate::gate::Gate;
-use crate::rousing::{MOST_PARTIES, Roused};
+use crate::rousing::Roused;
 use crate::shift::{FIRST, Hall, Shift, Then, party_after};
 use crate::worker::Worker;
 use an_base::memory::OutOfMemory;
@@ -36,11 +36,11 @@ pub struct Told {
     pub accounts: Vec<Account>,
 }
 
-// The most workers that have a thread of their own.
-const FEW: usize = MOST_PARTIES;
+// The most workers that have a thread of their own at any gate.
+const FEW: usize = 4;
 
-// How many threads have the workers between them if these are more. The calls of the book follow one another,
-// and with fewer workers in each, threads wait for one another longer than they work.
+// How many threads have the workers between them if these are more, and the gate lets them go. The calls of the book
+// follow one another, and with fewer workers in each, threads wait for one another longer than they work.
 const THREADS: usize = 2;
 
 // A worker for each switch of a script, and the seat that is left.
@@ -243,11 +243,11 @@ fn lead<R: Wait, G: Gate>(
     }
 }
 
-// How many of so many workers a thread has.
-fn workers_each(workers: usize) -> usize
+// How many of so many workers a thread has: one if they may wait for one another.
+fn workers_each(waits: bool, workers: usize) -> usize
     ensures { 0 < result }
 {
-    if workers <= FEW {
+    if waits || workers <= FEW {
         return 1;
     }
     workers.div_ceil(THREADS)
@@ -301,7 +301,7 @@ fn make<R: Threads + Wait + Sync, G: Gate>(
     ensures driver { HasCalled driver.old.seat driver.new.seat }
     ensures workers { HaveCalled workers.old workers.new }
 {
-    let each = workers_each(workers.len());
+    let each = workers_each(gate.waits(), workers.len());
     let (first, others) = workers.split_at_mut(each.min(workers.len()));
     make_beside(rt, turnstile, gate, each, driver, first, others);
 }

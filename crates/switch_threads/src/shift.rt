@@ -13,7 +13,7 @@
 //!
 //! `wakes.pml` beside the sources is a model of all this, and `tests/wakes` walks through its states.
 
-use crate::rousing::{MOST_PARTIES, Roused, Rousing};
+use crate::rousing::{Roused, Rousing};
 use std::hint::spin_loop;
 use std::sync::atomic::{AtomicU64, Ordering};
 use std::sync::{Condvar, Mutex, MutexGuard, Wait};
@@ -37,6 +37,9 @@ const NEAR_LOOKS: u32 = 16;
 
 const SPINS: u32 = 32;
 
+// How many bits there are for parties.
+const MARKS: usize = 64;
+
 // Waits a little at the door, after so many looks in vain.
 fn stand(looks: u32) {
     if looks >= NEAR_LOOKS {
@@ -48,9 +51,9 @@ fn stand(looks: u32) {
     }
 }
 
-// The bit of a party.
+// The bit of a party. Of more than 64 some share one, and may look at the door for nothing.
 fn mark(party: usize) -> u64 {
-    1u64 << (party % MOST_PARTIES)
+    1u64 << (party % MARKS)
 }
 
 /// What a party is to do next.
@@ -90,7 +93,7 @@ impl Hall {
     // The parties that are to go on where they rest, a bit for each.
     fn called(&self) -> u64 {
         let mut called = 0;
-        for party in 0..MOST_PARTIES {
+        for party in 0..self.parties {
             if self.is_to_go_on(party) {
                 called |= mark(party);
             }

@@ -140,6 +140,10 @@ impl Waits {
 }
 
 impl Gate for Waits {
+    fn waits(&self) -> bool {
+        true
+    }
+
     fn before<R: Wait>(&self, _rt: &R, worker: u8, turn: u64) {
         self.watch.note(&self.watch.of(worker).begun, turn);
         if turn == 1 {

@@ -1,18 +1,16 @@
 //! Whole runs in threads (`switch_threads`).
 
 use an_base::event::Journal;
+use an_base::text::push_decimal;
 use fabric_state::ending::Ending;
 use net_script::reader::read;
-use std::alloc::Global;
+use std::alloc::{AllocError, Global};
 use std::process::Abort;
 use std::sync::Wait;
 use std::sync::atomic::{AtomicU64, Ordering};
 use std::test::Fail;
 use std::thread::{Threads, yield_now};
 use switch_threads::{Gate, run};
-
-// How many switches there are.
-const COUNT: u64 = 3;
 
 // How often one looks for the others before it gives up.
 const LOOKS: u32 = 20_000_000;
@@ -42,6 +40,10 @@ impl Turns {
 }
 
 impl Gate for Turns {
+    fn waits(&self) -> bool {
+        false
+    }
+
     fn before<R: Wait>(&self, _rt: &R, worker: u8, turn: u64) {
         self.look(worker, turn, 1);
     }
@@ -51,21 +53,37 @@ impl Gate for Turns {
     }
 }
 
-// How many workers came to their first turn, and how many looked for the others in vain.
+// How many workers there are, how many came to their first turn, and how many looked for the others in vain.
 #[derive(Drop)]
 struct Meeting {
+    all: u64,
     came: AtomicU64,
     alone: AtomicU64,
 }
 
+impl Meeting {
+    // That of so many workers, none of which has come.
+    fn of(all: u64) -> Meeting {
+        Meeting {
+            all,
+            came: AtomicU64::new(0),
+            alone: AtomicU64::new(0),
+        }
+    }
+}
+
 impl Gate for Meeting {
+    fn waits(&self) -> bool {
+        true
+    }
+
     fn before<R: Wait>(&self, _rt: &R, _worker: u8, turn: u64) {
         if turn != 1 {
             return;
         }
         self.came.fetch_add(1, Ordering::SeqCst);
         for _ in 0..LOOKS {
-            if self.came.load(Ordering::SeqCst) == COUNT {
+            if self.came.load(Ordering::SeqCst) == self.all {
                 return;
             }
             yield_now();
@@ -76,13 +94,15 @@ impl Gate for Meeting {
     fn after<R: Wait>(&self, _rt: &R, _worker: u8, _turn: u64) {}
 }
 
-// The journal of a run of three switches, which settles.
+// The journal of a run of the network of this text, which settles.
 fn settled<R: Threads + Wait + Sync + Abort, G: Gate>(
     rt: &R,
     alloc: Global,
+    text: &[u8],
     gate: &G,
 ) -> Result<Journal, Fail> {
-    let script = read(alloc, THREE)?;
+    assert!(rt; text.len() < 4_294_967_295);
+    let script = read(alloc, text)?;
     let run = run(rt, alloc, &script, gate)?;
     assert!(rt; matches!(run.run.end, Ending::Settled));
     Ok(run.run.journal)
@@ -102,24 +122,52 @@ fn the_gate_is_called_round_each_turn(rt: HostRuntime) -> Result<(), Fail> {
         made: [AtomicU64::new(0), AtomicU64::new(0), AtomicU64::new(0)],
         wrong: AtomicU64::new(0),
     };
-    settled(&rt, rt.alloc(), &gate)?;
+    settled(&rt, rt.alloc(), THREE, &gate)?;
     are_numbered(&rt, &gate);
     Ok(())
 }
 
 // All workers met.
 fn have_met(rt: &impl Abort, meeting: &Meeting) {
-    assert_eq!(rt; meeting.came.load(Ordering::SeqCst), COUNT);
+    assert_eq!(rt; meeting.came.load(Ordering::SeqCst), meeting.all);
     assert_eq!(rt; meeting.alone.load(Ordering::SeqCst), 0);
 }
 
 #[test]
 fn workers_run_beside_each_other(rt: HostRuntime) -> Result<(), Fail> {
-    let gate = Meeting {
-        came: AtomicU64::new(0),
-        alone: AtomicU64::new(0),
-    };
-    settled(&rt, rt.alloc(), &gate)?;
+    let gate = Meeting::of(3);
+    settled(&rt, rt.alloc(), THREE, &gate)?;
+    have_met(&rt, &gate);
+    Ok(())
+}
+
+// A row of thirty switches, each with a link to the next.
+fn thirty(alloc: Global) -> Result<Vec<u8>, AllocError> {
+    let mut text = Vec::new(alloc);
+    text.extend_from_slice(b"autonet 1\n")?;
+    'switches: for s in 10..40u64 {
+        text.extend_from_slice(b"switch S")?;
+        push_decimal(alloc, &mut text, s)?;
+        text.extend_from_slice(b" 0000000000")?;
+        push_decimal(alloc, &mut text, s)?;
+        text.extend_from_slice(b"\n")?;
+    }
+    'links: for s in 10..39u64 {
+        text.extend_from_slice(b"link S")?;
+        push_decimal(alloc, &mut text, s)?;
+        text.extend_from_slice(b" 1 S")?;
+        push_decimal(alloc, &mut text, s + 1)?;
+        text.extend_from_slice(b" 2\n")?;
+    }
+    text.extend_from_slice(b"end\n")?;
+    Ok(text)
+}
+
+#[test]
+fn thirty_workers_run_beside_each_other(rt: HostRuntime) -> Result<(), Fail> {
+    let gate = Meeting::of(30);
+    let text = thirty(rt.alloc())?;
+    settled(&rt, rt.alloc(), &text, &gate)?;
     have_met(&rt, &gate);
     Ok(())
 }
@@ -134,6 +182,10 @@ struct Slow {
 }
 
 impl Gate for Slow {
+    fn waits(&self) -> bool {
+        false
+    }
+
     fn before<R: Wait>(&self, _rt: &R, worker: u8, turn: u64) {
         if worker == self.worker && turn % 16 == 0 {
             for _ in 0..PAUSES {
@@ -148,7 +200,7 @@ impl Gate for Slow {
 #[test]
 fn threads_that_sleep_meanwhile_are_woken(rt: HostRuntime) -> Result<(), Fail> {
     for worker in 1..=3 {
-        settled(&rt, rt.alloc(), &Slow { worker })?;
+        settled(&rt, rt.alloc(), THREE, &Slow { worker })?;
     }
     Ok(())
 }

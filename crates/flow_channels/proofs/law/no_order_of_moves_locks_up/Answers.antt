@@ -3,7 +3,7 @@ use Rattle.flow_channels.specs.Runs.{entered}
 use Rattle.flow_channels.proofs.MoveLaws.{some_move}
 use Rattle.flow_channels.proofs.SoundLaws.{comes_sound}
 use Rattle.flow_channels.proofs.WiredLaws.{wired}
-use Rattle.flow_channels.proofs.law.rows_that_pass_never_lock_up.Goals as goal
+use Rattle.flow_channels.proofs.law.no_order_of_moves_locks_up.Goals as goal
 
 pub returns : goal.returns
 returns c = λ es numbers rows ranks most limit acts flow graph named count passes some comes left.
