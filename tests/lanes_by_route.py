@@ -15,6 +15,7 @@ NAME = re.compile(r"NodeGUID:(\w{16}) PortGUID:\w+ VenID:\w+ DevID:\w+ Rev:\w+ \
 CHANNEL = re.compile(r"channel (?P<switch>\w+) (?P<port>\d+) lane (?P<lane>\d+) "
                      r"lid (?P<lid>\d+) from (?P<source>\w+) level (?P<level>\d+)")
 DISCARD = 15
+UNSET = (0, 0xFFFF)
 
 Node = collections.namedtuple("Node", "is_switch guid ports lid port")
 
@@ -66,7 +67,8 @@ class Fabric:
 
     def add(self, node, far):
         """A node, with the far side of its port."""
-        self.owner[node.lid] = node.is_switch, node.guid
+        if node.lid not in UNSET:
+            self.owner[node.lid] = node.is_switch, node.guid
         if node.is_switch:
             self.ports[node.guid] = node.ports
             self.far[node.guid, node.port] = far
@@ -81,7 +83,7 @@ class Fabric:
         if port is None:
             return "missing", None
         if port == 0:
-            return ("arrive" if owner == (True, switch) else "wrong"), None
+            return ("arrive" if owner in (None, (True, switch)) else "wrong"), None
         far = self.far.get((switch, port))
         if far is None or port > self.ports[switch]:
             return "dead", None
@@ -89,7 +91,7 @@ class Fabric:
         if lane == DISCARD:
             return "discard", None
         if not far.is_switch:
-            return ("arrive" if owner == (False, far.guid) else "wrong"), None
+            return ("arrive" if owner in (None, (False, far.guid)) else "wrong"), None
         return (switch, port, lane), self.gate.get((far.guid, far.port), (far.guid, far.port))
 
 
@@ -121,30 +123,52 @@ def levels_in(path):
     return lambda source, lid: in_order.get((source, lid), ())
 
 
+def with_replies(fabric, levels):
+    """Levels with those of replies: an end port that is sent to answers with the level of the request."""
+    own = collections.defaultdict(list)
+    for lid, (_, guid) in fabric.owner.items():
+        own[guid].append(lid)
+
+    def both(source, lid):
+        owner = fabric.owner.get(lid)
+        replies = [levels(owner[1], one) for one in own[source]] if owner else []
+        return tuple(sorted({*levels(source, lid), *itertools.chain(*replies)}))
+    return both
+
+
 class Answer:
     """The counts, the dependencies with their least routes, and the lost routes of all that is sent."""
 
     def __init__(self, fabric, levels, traffic):
         self.fabric, self.levels = fabric, levels
-        self.routes = self.arrived = self.hops = self.silent = 0
+        self.routes = self.arrived = self.hops = self.silent = self.unowned = 0
+        self.traffic, self.mute = traffic, None
         self.depends, self.lost, self.first = {}, collections.Counter(), {}
         self.known, self.counted = {}, {}
         sources = {guid: fabric.gate.get(begin, begin) for guid, begin in fabric.cable.items()}
-        if traffic == "all":
+        hosts = sorted(sources.items())
+        if traffic in ("managed", "all", "rows"):
             sources.update({guid: fabric.gate.get((guid, 0), (guid, 0)) for guid in fabric.ports})
-        in_order = sorted(sources.items())
-        for lid, (is_switch, owner) in sorted(fabric.owner.items()):
-            if is_switch and traffic == "hosts":
-                continue
+        everyone = sorted(sources.items())
+        for lid in sorted(self.targets()):
+            is_switch, owner = fabric.owner.get(lid, (False, None))
             self.known = {like: {} for like in fabric.like}
-            for source, begin in in_order:
+            for source, begin in hosts if is_switch and traffic == "managed" else everyone:
                 if source != owner:
                     self.add(begin, source, lid)
+
+    def targets(self):
+        """The LIDs to which the traffic goes."""
+        yield from (lid for lid, (is_switch, _) in self.fabric.owner.items() if not is_switch or self.traffic != "hosts")
+        if self.traffic == "rows":
+            yield from {lid for table in self.fabric.table.values() for lid in table} - self.fabric.owner.keys()
 
     def add(self, begin, source, lid):
         """The routes of a pair, each level one."""
         levels = tuple(self.levels(source, lid))
-        self.silent += not levels
+        if not levels:
+            self.silent += 1
+            self.mute = self.mute or (lid, source)
         if levels not in self.counted:
             self.counted[levels] = self.count_like(levels)
         for level, count in self.counted[levels]:
@@ -194,6 +218,7 @@ class Answer:
         self.routes += count
         if how == "arrive":
             self.arrived += count
+            self.unowned += count if route[0] not in self.fabric.owner else 0
             self.hops = max(self.hops, switches)
         else:
             self.lost[how] += count
@@ -232,9 +257,11 @@ class Answer:
     def lines(self, word):
         """The lines of the answer after `read`, without names."""
         channels = self.fabric.count * sum(far.is_switch for far in self.fabric.far.values())
-        yield f"routes {self.routes} arrived {self.arrived} hops {self.hops}"
+        unowned = f" unowned {self.unowned}" if self.traffic == "rows" else ""
+        yield f"routes {self.routes} arrived {self.arrived} hops {self.hops}{unowned}"
         if self.silent:
             yield f"silent {self.silent}"
+            yield "mute lid {} from 0x{:016x}".format(*self.mute)
         yield f"channels {channels} dependencies {len(self.depends)}"
         cycle = self.cycle()
         yield f"cycle {len(cycle) or 'none'}"
@@ -255,7 +282,7 @@ class Answer:
 def lines_of(folder, word, traffic):
     """The lines of the answer for a folder: `levels` takes those of path-sl.dump, else one level or `any`."""
     fabric = fabric_in(folder)
-    levels = {"levels": lambda: levels_in(folder / "path-sl.dump"),
+    levels = {"levels": lambda: with_replies(fabric, levels_in(folder / "path-sl.dump")),
               "any": lambda: lambda source, lid: range(16)}.get(word, lambda: lambda source, lid: [int(word)])()
     told = "file" if word == "levels" else word
     return [f"judged traffic {traffic} lanes {fabric.count} levels {told}", *Answer(fabric, levels, traffic).lines(word)]

@@ -11,8 +11,8 @@ import subprocess
 TOP = pathlib.Path(__file__).resolve().parent.parent
 FABRIC = os.environ.get("FABRIC", str(TOP / "fabric"))
 TRAFFICS = ("hosts", "lids", "all")
-HEAD = re.compile(r"(?:Unicast lids .*guid 0x(\w+)|switch 0x(\w+))")
-ROW = re.compile(r"(0x[0-9a-f]+|\d+)\s+(\d+)(?:\s|$)")
+HEAD = re.compile(r"(?:Unicast lids .*guid 0x(\w+)|(?:\w+: S|s)witch 0x(\w+))")
+ROW = re.compile(r"(0x[0-9a-fA-F]+|\d+)\s+(?::\s)?(\d+)(?:\s|$)")
 
 
 def run(*words, **streams):
@@ -35,11 +35,12 @@ class Fabric:
 
     def __init__(self, text):
         self.switches, self.at, self.owner, self.links = set(), {}, {}, {}
-        told = self.plain if text.startswith("topology 1") else self.listed if text.startswith("{") else self.found
+        is_list = re.match(r"(?:#.*\n|\n)*(?:\{|lmc )", text)
+        told = self.plain if text.startswith("topology 1") else self.listed if is_list else self.found
         told(text)
 
     def own(self, end, base, lmc):
-        for lid in range(base, base + (1 << lmc) if base else 0):
+        for lid in range(base, base + (1 << lmc) if base not in (0, 0xFFFF) else 0):
             self.owner[lid] = end
 
     def cable(self, one, port, other, far):
@@ -65,11 +66,12 @@ class Fabric:
 
     def listed(self, text):
         told = []
+        lmc = int(next(iter(re.findall(r"^lmc (\d)$", text, re.M)), 0))
         for line in text.splitlines():
             ends = re.findall(r"\{ (\w+).*?PortGUID:(\w+).*?LID:(\w+) PN:(\w+) \}", line)
             ends = [(kind, int(guid, 16), int(lid, 16), int(port, 16)) for kind, guid, lid, port in ends]
             for kind, guid, lid, _ in ends:
-                self.own(guid, lid, 0)
+                self.own(guid, lid, 0 if kind.startswith("SW") else lmc)
                 self.switches |= {guid} if kind.startswith("SW") else set()
             told.append([(guid, port) for _, guid, _, port in ends])
         for pair in told:
@@ -98,7 +100,7 @@ class Fabric:
 
 
 def tables_in(text):
-    """The rows of each switch, as a dump of OpenSM or a plain text tells them. Port 255 is none."""
+    """The rows of each switch, as a dump or a list of OpenSM or a plain text tells them. Port 255 is none."""
     tables = {}
     for line in text.splitlines():
         if found := HEAD.match(line):

@@ -46,9 +46,9 @@ def main(topology, tables, ranks, traffic="hosts"):
             if one[0] == "host" and other[0] == "switch":
                 start[one] = other
     for line in open(tables, errors="replace"):
-        if m := re.match(r"(?:Unicast lids .* guid|switch) 0x(\w+)", line):
+        if m := re.match(r"(?:Unicast lids .* guid|\w+: Switch|switch) 0x(\w+)", line):
             row = table.setdefault(("switch", int(m[1], 16)), {})
-        elif m := re.match(r"(?:0x(\w{4})|(\d+)) (\d+)\b", line):
+        elif m := re.match(r"(?:0x(\w{4})|(\d+)) (?:: )?(\d+)\b", line):
             row[int(m[1], 16) if m[1] else int(m[2])] = int(m[3])
     for line in open(ranks):
         if m := re.match(r"rank 0x(\w+) (\d+) (\d+)", line):

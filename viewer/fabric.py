@@ -174,6 +174,7 @@ JUDGED = (
     "read switches N ends N links N rows N unowned N",
     "judged traffic WORD lanes WORD",
     "routes N arrived N hops N",
+    "routes N arrived N hops N unowned N",
     "channels N dependencies N",
     "cycle none",
     "cycle N",
@@ -183,6 +184,7 @@ JUDGED = (
     "dead lid N from GUID at GUID",
     "wrong lid N from GUID at GUID",
     "loop lid N from GUID at GUID",
+    "note unset N",
     "name GUID WORD..",
 )
 
@@ -206,6 +208,8 @@ class Judgement:
         elif kind == "name":
             self.names[values[0]] = shown(" ".join(values[1]))
         else:
+            if kind == "read" and values[:3:2] != [len(self.fabric.switches), len(self.fabric.links)]:
+                raise line.fault("another topology")
             self.facts.append((JUDGED[which], values))
 
     def is_whole(self):
@@ -213,7 +217,7 @@ class Judgement:
         facts = {form.split()[0]: values for form, values in self.facts}
         if not {"routes", "cycle"} <= facts.keys():
             return False
-        (routes, arrived, _), (lost, *causes) = facts["routes"], facts.get("lost", [0])
+        (routes, arrived, *_), (lost, *causes) = facts["routes"], facts.get("lost", [0])
         told = len(self.cycle), lost, len(self.lost)
         return told == (sum(facts["cycle"]), routes - arrived, sum(map(bool, causes)))
 

@@ -114,7 +114,9 @@ class Judged(Story):
 TRAFFIC = {
     "hosts": "from end ports to end ports",
     "lids": "from end ports to end ports and switches",
+    "managed": "from end ports to end ports and switches, and from switches to end ports",
     "all": "from end ports and switches to both",
+    "rows": "from end ports and switches to both, and to each LID that nobody owns and that has a row",
 }
 
 
@@ -127,11 +129,14 @@ def in_words(fact):
     if form.startswith("judged"):
         return f"Judged: routes {TRAFFIC.get(values[0], values[0])}."
     if form.startswith("routes"):
-        return f"Of {plural(values[0], 'route')} {values[1]} arrive, over {plural(values[2], 'switch')} at most."
+        unowned = f" {values[3]} of these are for LIDs that nobody owns." if len(values) > 3 else ""
+        return f"Of {plural(values[0], 'route')} {values[1]} arrive, over {plural(values[2], 'switch')} at most.{unowned}"
     if form.startswith("channels"):
         pairs = plural(values[1], "pair")
         takes = "of which some route takes the one and then the other"
         return f"There are {plural(values[0], 'channel')}, and {pairs} {takes}."
+    if form.startswith("note unset"):
+        return f"{plural(values[0], 'end port')} had LID 65535, which is none."
     if form.startswith("lost"):
         kinds = zip(("missing", "dead", "wrong", "loop"), values[1:])
         return f"Routes lost: {values[0]}, which are " + ", ".join(f"{many} {kind}" for kind, many in kinds) + "."

@@ -10,15 +10,16 @@ use calling::words::words_of_call;
 use ib_answering::status::{Status, finish};
 use ib_calls::fabric::fabric;
 use ib_judging::input::Input;
+use ib_judging::words::file_of;
 use outside::standard::{StdSink, StdSource};
 use std::process::ExitCode;
 
-// Answers the words over the files that those after the first name.
+// Answers the words over the files that they name.
 fn answer(rt: &HostRuntime, words: &[Word]) -> u8 {
-    let mut topology = StdSource::new(Input::named(rt, rt.stdin(), words.get(1)));
-    let mut tables = StdSource::new(Input::named(rt, rt.stdin(), words.get(2)));
-    let mut third = StdSource::new(Input::named(rt, rt.stdin(), words.get(3)));
-    let mut fourth = StdSource::new(Input::named(rt, rt.stdin(), words.get(4)));
+    let mut topology = StdSource::new(Input::named(rt, rt.stdin(), file_of(words, 0)));
+    let mut tables = StdSource::new(Input::named(rt, rt.stdin(), file_of(words, 1)));
+    let mut third = StdSource::new(Input::named(rt, rt.stdin(), file_of(words, 2)));
+    let mut fourth = StdSource::new(Input::named(rt, rt.stdin(), file_of(words, 3)));
     let mut out = StdSink::new(rt.stdout());
     let mut err = StdSink::new(rt.stderr());
     fabric(

@@ -9,21 +9,22 @@ use calling::words::words_of_call;
 use ib_answering::status::{Status, finish};
 use ib_judging::input::Input;
 use ib_judging::question::answer_question;
-use ib_judging::words::{Call, Task, call_of};
+use ib_judging::words::{Call, Task, call_of, file_of};
 use outside::standard::{StdSink, StdSource};
 use std::process::ExitCode;
 
-// Answers the words over the files that those after the first name.
+// Answers the words over the files that they name.
 fn answer(rt: &HostRuntime, words: &[Word]) -> u8 {
-    let mut topology = StdSource::new(Input::named(rt, rt.stdin(), words.get(1)));
-    let mut tables = StdSource::new(Input::named(rt, rt.stdin(), words.get(2)));
-    let mut ranks = StdSource::new(Input::named(rt, rt.stdin(), words.get(3)));
+    let mut topology = StdSource::new(Input::named(rt, rt.stdin(), file_of(words, 0)));
+    let mut tables = StdSource::new(Input::named(rt, rt.stdin(), file_of(words, 1)));
+    let mut ranks = StdSource::new(Input::named(rt, rt.stdin(), file_of(words, 2)));
     let mut out = StdSink::new(rt.stdout());
     let mut err = StdSink::new(rt.stderr());
     let Some(
         Call {
             task: Task::Answer(question),
             traffic,
+            ..
         },
     ) = call_of(words)
     else {

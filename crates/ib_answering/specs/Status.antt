@@ -11,7 +11,7 @@ use Rattle.ib_words.specs.RanksCauses.{cause_text as ranks_cause}
 use Rattle.ib_answering.specs.declared.status.Status.{Status}
 use Rattle.ib_answering.specs.declared.status.Status.TheVariants.{Ok, Usage, TopologyRefused, TopologyTooLong, TablesRefused, ReadFault, WriteFault, RoutesLost, Cycle, OutOfMemory}
 use Rattle.ib_answering.specs.declared.status.Status.TheVariants.{LanesRefused, LevelsRefused, RanksRefused, RanksTooLong, RanksRise}
-use Rattle.ib_answering.specs.declared.status.Status.TheVariants.{NewTablesRefused}
+use Rattle.ib_answering.specs.declared.status.Status.TheVariants.{NewTablesRefused, Undecided}
 
 -- the number of a status
 abbrev pub code_of : Status → ℕ
@@ -27,6 +27,7 @@ code_of (RanksTooLong line) = 3
 code_of (NewTablesRefused line cause) = 3
 code_of ReadFault = 4
 code_of WriteFault = 5
+code_of Undecided = 6
 code_of RoutesLost = 7
 code_of Cycle = 8
 code_of RanksRise = 8
@@ -41,16 +42,18 @@ refusal_line file line cause =
 abbrev pub line_of : Status → List ℕ
 line_of Ok = []
 line_of Usage =
-    codes "usage: fabric judge TOPOLOGY TABLES [hosts|lids|all]\n"
-    ++ codes "       fabric ranks TOPOLOGY TABLES [hosts|lids|all]\n"
-    ++ codes "       fabric verify TOPOLOGY TABLES RANKS [hosts|lids|all]\n"
-    ++ codes "       fabric dot TOPOLOGY TABLES [hosts|lids|all]\n"
-    ++ codes "       fabric dot TOPOLOGY TABLES SL2VL LEVELS|any|LEVEL [hosts|lids|all]\n"
-    ++ codes "       fabric route TOPOLOGY [hosts|lids|all]\n"
-    ++ codes "       fabric repair TOPOLOGY TABLES [hosts|lids|all]\n"
-    ++ codes "       fabric repaired TOPOLOGY TABLES [hosts|lids|all]\n"
-    ++ codes "       fabric lanes TOPOLOGY TABLES SL2VL LEVELS|any|LEVEL [hosts|lids|all]\n"
+    codes "usage: fabric judge TOPOLOGY TABLES [TRAFFIC]\n"
+    ++ codes "       fabric ranks TOPOLOGY TABLES [TRAFFIC]\n"
+    ++ codes "       fabric verify TOPOLOGY TABLES RANKS [TRAFFIC]\n"
+    ++ codes "       fabric dot TOPOLOGY TABLES [TRAFFIC]\n"
+    ++ codes "       fabric dot TOPOLOGY TABLES SL2VL LEVELS|any|LEVEL [REPLIES] [SILENT] [TRAFFIC]\n"
+    ++ codes "       fabric route TOPOLOGY [TRAFFIC]\n"
+    ++ codes "       fabric repair TOPOLOGY TABLES [TRAFFIC]\n"
+    ++ codes "       fabric repaired TOPOLOGY TABLES [TRAFFIC]\n"
+    ++ codes "       fabric lanes TOPOLOGY TABLES SL2VL LEVELS|any|LEVEL [REPLIES] [SILENT] [TRAFFIC]\n"
     ++ codes "       fabric between TOPOLOGY OLD NEW\n"
+    ++ codes "TRAFFIC: hosts|lids|managed|all|rows as last word, or -t TRAFFIC, --traffic TRAFFIC anywhere\n"
+    ++ codes "REPLIES: --replies yes|no anywhere; SILENT: --silent LEVEL anywhere\n"
 line_of (TopologyRefused line cause) = refusal_line (codes "topology") line (topology_cause cause)
 line_of (TopologyTooLong line) = refusal_line (codes "topology") line (codes "too many")
 line_of (TablesRefused line cause) = refusal_line (codes "tables") line (tables_cause cause)
@@ -61,6 +64,7 @@ line_of (RanksTooLong line) = refusal_line (codes "ranks") line (codes "too many
 line_of (NewTablesRefused line cause) = refusal_line (codes "new tables") line (tables_cause cause)
 line_of ReadFault = codes "fabric: read fault\n"
 line_of WriteFault = codes "fabric: write fault\n"
+line_of Undecided = codes "fabric: not decided\n"
 line_of RoutesLost = codes "fabric: routes lost\n"
 line_of Cycle = codes "fabric: cycle\n"
 line_of RanksRise = codes "fabric: ranks rise\n"

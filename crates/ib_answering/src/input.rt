@@ -1,6 +1,7 @@
 //! The topology that a call reads.
 
 ghost use Rattle.std.specs.Prelude.{◌≡◌, IfErr, IfOk};
+ghost use Rattle.ib_topology.specs.Unset.{unset_of};
 ghost use Rattle.ib_answering.specs.Answer.{GaveFabric, IsNoFabric, unread_as};
 
 use crate::status::Status;
@@ -20,6 +21,9 @@ pub struct Topology {
     pub text: Vec<u8>,
     /// The fabric of which it is the text.
     pub fabric: Fabric,
+    /// How many switches and end ports of it say that their base LID is 65535, and own none.
+    pub unset: usize,
+    ghost counted: { unset ≡ unset_of text.items },
 }
 
 impl From<Unread> for Status {
@@ -42,7 +46,11 @@ pub fn read_topology<S: Source>(alloc: Global, source: &mut S) -> Result<Topolog
 {
     let text = read_input(alloc, source, TOPOLOGY_LIMIT)?;
     match read_fabric(alloc, &text) {
-        Ok(fabric) => Ok(Topology { text, fabric }),
+        Ok(told) => Ok(Topology {
+            text,
+            fabric: told.fabric,
+            unset: told.unset,
+        }),
         Err(refusal) => Err(Status::from(refusal)),
     }
 }

@@ -82,6 +82,9 @@ pub enum Status {
     ReadFault,
     /// A sink failed.
     WriteFault,
+    /// There is no cycle and each route that is judged arrives, but some end port sends to a LID with a service level
+    /// that nobody told, and this route is not judged.
+    Undecided,
     /// There is no cycle, but a route does not arrive.
     RoutesLost,
     /// There is a cycle, whether or not routes are lost.
@@ -141,6 +144,7 @@ impl Status {
             Status::NewTablesRefused { line: _, cause: _ } => 3,
             Status::ReadFault => 4,
             Status::WriteFault => 5,
+            Status::Undecided => 6,
             Status::RoutesLost => 7,
             Status::Cycle => 8,
             Status::RanksRise => 8,
@@ -166,16 +170,18 @@ enum Line {
 }
 
 // The lines of the calls, for words that are none.
-const USAGE: &str = "usage: fabric judge TOPOLOGY TABLES [hosts|lids|all]
-       fabric ranks TOPOLOGY TABLES [hosts|lids|all]
-       fabric verify TOPOLOGY TABLES RANKS [hosts|lids|all]
-       fabric dot TOPOLOGY TABLES [hosts|lids|all]
-       fabric dot TOPOLOGY TABLES SL2VL LEVELS|any|LEVEL [hosts|lids|all]
-       fabric route TOPOLOGY [hosts|lids|all]
-       fabric repair TOPOLOGY TABLES [hosts|lids|all]
-       fabric repaired TOPOLOGY TABLES [hosts|lids|all]
-       fabric lanes TOPOLOGY TABLES SL2VL LEVELS|any|LEVEL [hosts|lids|all]
+const USAGE: &str = "usage: fabric judge TOPOLOGY TABLES [TRAFFIC]
+       fabric ranks TOPOLOGY TABLES [TRAFFIC]
+       fabric verify TOPOLOGY TABLES RANKS [TRAFFIC]
+       fabric dot TOPOLOGY TABLES [TRAFFIC]
+       fabric dot TOPOLOGY TABLES SL2VL LEVELS|any|LEVEL [REPLIES] [SILENT] [TRAFFIC]
+       fabric route TOPOLOGY [TRAFFIC]
+       fabric repair TOPOLOGY TABLES [TRAFFIC]
+       fabric repaired TOPOLOGY TABLES [TRAFFIC]
+       fabric lanes TOPOLOGY TABLES SL2VL LEVELS|any|LEVEL [REPLIES] [SILENT] [TRAFFIC]
        fabric between TOPOLOGY OLD NEW
+TRAFFIC: hosts|lids|managed|all|rows as last word, or -t TRAFFIC, --traffic TRAFFIC anywhere
+REPLIES: --replies yes|no anywhere; SILENT: --silent LEVEL anywhere
 ";
 
 // The fault of a file.
@@ -204,6 +210,7 @@ fn line_of(status: Status) -> Line
         Status::NewTablesRefused { line, cause } => fault("new tables", line, cause.text()),
         Status::ReadFault => Line::Plain("fabric: read fault\n"),
         Status::WriteFault => Line::Plain("fabric: write fault\n"),
+        Status::Undecided => Line::Plain("fabric: not decided\n"),
         Status::RoutesLost => Line::Plain("fabric: routes lost\n"),
         Status::Cycle => Line::Plain("fabric: cycle\n"),
         Status::RanksRise => Line::Plain("fabric: ranks rise\n"),

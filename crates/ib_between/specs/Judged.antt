@@ -1,6 +1,6 @@
 -- What `between` gives for the text of a topology, its fabric, and two tables.
 
-use Rattle.std.specs.Prelude.{◌≡◌, ℕ, List, [], ◌∷◌, map, nat_eq}
+use Rattle.std.specs.Prelude.{◌≡◌, ℕ, List, [], ◌∷◌, Option, Some, None, map, nat_eq}
 use Rattle.indexmap.specs.IndexSet.{insert_all}
 use Rattle.channel_graph.specs.Cycles.{HasNoCycle, IsCycle}
 use Rattle.ib_net.specs.declared.node.EndPort.TheVariants.{Switch}
@@ -10,9 +10,11 @@ use Rattle.ib_routes.specs.Counting.{IsCountOf}
 use Rattle.ib_routes.specs.Routes.{Channel}
 use Rattle.ib_tables.specs.declared.reader.Tables.{Tables}
 use Rattle.ib_verdict.specs.Count.{IsChannelCount}
+use Rattle.ib_topology.specs.Unset.{unset_of}
+use Rattle.ib_mixtures.specs.declared.looped.Looped.{Looped}
 use Rattle.ib_mixtures.specs.declared.judge.LoopChannel.{LoopChannel}
 use Rattle.ib_mixtures.specs.Mixtures.{MayBeFollowed}
-use Rattle.ib_mixtures.specs.Verdict.{CycleIs, HasRanks, IsChanged, IsFollowed}
+use Rattle.ib_mixtures.specs.Verdict.{CycleIs, HasRanks, IsChanged, IsFollowed, IsLooped}
 use Rattle.ib_answering.specs.declared.status.Status.{Status}
 use Rattle.ib_answering.specs.declared.status.Status.TheVariants.{Ok, Cycle}
 use Rattle.ib_commands.specs.Judged.{IsRead}
@@ -33,6 +35,12 @@ IsEndOf fabric old new status = ⊥
 abbrev pub IsLoop : FabricOf → (old new : TablesOf) → List LoopChannel → Type 0
 IsLoop fabric old new [] = HasNoCycle (MayBeFollowed fabric old new)
 IsLoop fabric old new (one ∷ rest) = CycleIs fabric old new (one ∷ rest)
+
+-- which of two tables have a loop by them alone is told if they have one together
+abbrev pub IsToldOf : FabricOf → (old new : TablesOf) → List LoopChannel → Option Looped → Type 0
+IsToldOf fabric old new [] looped = looped ≡ None
+IsToldOf fabric old new (one ∷ rest) None = ⊥
+IsToldOf fabric old new (one ∷ rest) (Some looped) = IsLooped fabric old new looped
 
 -- a channel of a cycle, as an answer tells it
 abbrev pub turn_of : FabricOf → LoopChannel → Turn
@@ -59,7 +67,9 @@ pub record IsAnswerFor (text : List ℕ) (fabric : FabricOf) (old new : Tables) 
   pub dependencies : IsCountOf (IsFollowed fabric (tables_of old.cells) (tables_of new.cells)) answer.dependencies
   pub loop : List LoopChannel
   pub is_loop : IsLoop fabric (tables_of old.cells) (tables_of new.cells) loop
+  pub looped : IsToldOf fabric (tables_of old.cells) (tables_of new.cells) loop answer.looped
   pub cycle : answer.cycle.items ≡ map (turn_of fabric) loop
+  pub unset : answer.unset ≡ unset_of text
   pub names : answer.names.items ≡ names_for text (switches_of answer.cycle.items)
 
 -- the status means what is so of both tables, and what is written is the text of their answer

@@ -1,11 +1,12 @@
 //! The answer for two tables of a fabric.
 
-ghost use Rattle.std.specs.Prelude.{◌≡◌, IfOk, map};
+ghost use Rattle.std.specs.Prelude.{◌≡◌, IfOk, List, map};
 ghost use Rattle.ib_cells.specs.Cells.{TablesOf, tables_of};
 ghost use Rattle.ib_net.specs.Fabric.{FabricOf};
 ghost use Rattle.ib_tables.specs.Reads.{HasCells};
+ghost use Rattle.ib_mixtures.specs.declared.judge.LoopChannel.{LoopChannel};
 ghost use Rattle.ib_mixtures.specs.Verdict.{IsJudgement};
-ghost use Rattle.ib_between.specs.Judged.{IsAnswerFor, IsBetween, IsEndOf, IsLoop, switches_of, turn_of};
+ghost use Rattle.ib_between.specs.Judged.{IsAnswerFor, IsBetween, IsEndOf, IsLoop, IsToldOf, switches_of, turn_of};
 
 use crate::lines::{Between, NewRows, Turn, print_between};
 use an_base::memory::OutOfMemory;
@@ -16,6 +17,7 @@ use ib_commands::answer::read_of;
 use ib_commands::names::names_for;
 use ib_mixtures::changed::count_changed;
 use ib_mixtures::judge::{Judgement, LoopChannel, Verdict, judge};
+use ib_mixtures::looped::Looped;
 use ib_net::fabric::Fabric;
 use ib_net::node::EndPort;
 use ib_tables::reader::Tables;
@@ -50,7 +52,10 @@ fn status_of(judged: &Judgement) -> Status
 {
     match &judged.verdict {
         Verdict::Ranks { ranks: _ } => Status::Ok,
-        Verdict::Cycle { channels: _ } => Status::Cycle,
+        Verdict::Cycle {
+            channels: _,
+            looped: _,
+        } => Status::Cycle,
     }
 }
 
@@ -80,6 +85,8 @@ fn answer_for(
         },
         channels: links.channels,
         dependencies: judged.dependencies,
+        looped: looped_of(judged),
+        unset: topology.unset as u64,
         names: names_for(alloc, &topology.text, &switches)?,
         cycle,
     })
@@ -92,7 +99,24 @@ fn cycle_of(judged: &Judgement) -> &[LoopChannel]
 {
     match &judged.verdict {
         Verdict::Ranks { ranks: _ } => &[],
-        Verdict::Cycle { channels } => channels,
+        Verdict::Cycle {
+            channels,
+            looped: _,
+        } => channels,
+    }
+}
+
+// Which tables have a cycle by them alone, none if they have none together.
+fn looped_of(judged: &Judgement) -> Option<Looped>
+    ensures { (fabric : FabricOf) (old new : TablesOf) (loop : List LoopChannel)
+        → IsJudgement fabric old new judged.now → IsLoop fabric old new loop → IsToldOf fabric old new loop result }
+{
+    match &judged.verdict {
+        Verdict::Ranks { ranks: _ } => None,
+        Verdict::Cycle {
+            channels: _,
+            looped,
+        } => Some(*looped),
     }
 }
 

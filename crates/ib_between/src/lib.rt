@@ -4,8 +4,8 @@
 //! It stands on `ib_mixtures`, which judges both tables together, on the rows of `ib_lines`, and on `ib_answering`, which
 //! reads the topology and tells how the call ended. Its one contract is that of
 //! `between::between`: with 0 no channels that may follow one another lead round, so that no mixture of the rows has a
-//! credit loop; with 8 some do, and out has the least such cycle. Whether the routes of either table arrive is not
-//! said.
+//! credit loop; with 8 some do, and out has the least such cycle, and which of the tables have one by them alone. Whether the routes
+//! of either table arrive is not said.
 #![tactic(auto)]
 
 pub mod answer;

@@ -1,14 +1,15 @@
 //! The answer as a text.
 
 ghost use Rattle.std.specs.Prelude.{◌≡◌, ◌++◌, IfOk, OnOk};
-ghost use Rattle.text_lines.specs.Lines.{line_text};
-ghost use Rattle.ib_between.specs.Lines.{between_row, between_text, by_word};
+ghost use Rattle.text_lines.specs.Lines.{line_text, lines_text};
+ghost use Rattle.ib_between.specs.Lines.{between_row, between_text, by_word, loop_rows, looped_word};
 
 use an_base::memory::OutOfMemory;
 use ib_lines::answer::{Name, Read};
-use ib_lines::printer::{push_channels, push_cycle, push_read};
+use ib_lines::printer::{push_channels, push_read, push_unset};
 use ib_lines::row::RowWord::{Guid, Number, Text};
 use ib_lines::row::{HasRow, push_row, push_rows};
+use ib_mixtures::looped::Looped;
 use ib_mixtures::turn::By;
 use std::alloc::Global;
 
@@ -49,8 +50,12 @@ pub struct Between {
     pub channels: u64,
     /// How many pairs of channels may follow one another.
     pub dependencies: u64,
+    /// Which of the two tables have a cycle by them alone, or none if they have none together.
+    pub looped: Option<Looped>,
     /// The channels of the least cycle, or none if no cycle exists.
     pub cycle: Vec<Turn>,
+    /// How many switches and end ports of the topology say that their base LID is 65535.
+    pub unset: u64,
     /// The names of the nodes above.
     pub names: Vec<Name>,
 }
@@ -73,7 +78,8 @@ fn push_between(alloc: Global, text: &mut Vec<u8>, answer: &Between) -> Result<(
     push_read(alloc, text, answer.read)?;
     push_new(alloc, text, answer.new)?;
     push_channels(alloc, text, answer.channels, answer.dependencies)?;
-    push_cycle(alloc, text, &answer.cycle)?;
+    push_loop(alloc, text, answer.looped, &answer.cycle)?;
+    push_unset(alloc, text, answer.unset)?;
     push_rows(alloc, text, &answer.names)
 }
 
@@ -94,6 +100,39 @@ fn push_new(alloc: Global, text: &mut Vec<u8>, new: NewRows) -> Result<(), OutOf
             Number(new.changed),
         ],
     )
+}
+
+// The cycle, if there is one: how many channels it has, which tables have one by them alone, and its channels.
+fn push_loop(
+    alloc: Global,
+    text: &mut Vec<u8>,
+    looped: Option<Looped>,
+    cycle: &[Turn],
+) -> Result<(), OutOfMemory>
+    ensures { OnOk result (text.new.items ≡ text.old.items ++ lines_text (loop_rows looped cycle.now)) }
+{
+    let Some(looped) = looped else {
+        return push_row(alloc, text, Text(b"cycle"), &[Text(b"none")]);
+    };
+    push_row(alloc, text, Text(b"cycle"), &[Number(cycle.len() as u64)])?;
+    push_row(
+        alloc,
+        text,
+        Text(b"looped"),
+        &[Text(looped_word(looped).as_bytes())],
+    )?;
+    push_rows(alloc, text, cycle)
+}
+
+fn looped_word(looped: Looped) -> &'static str
+    ensures { result.now ≡ looped_word looped }
+{
+    match looped {
+        Looped::Old => "old",
+        Looped::New => "new",
+        Looped::Both => "both",
+        Looped::Mixture => "mixture",
+    }
 }
 
 impl HasRow for Turn {

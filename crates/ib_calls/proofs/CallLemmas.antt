@@ -8,9 +8,9 @@ use Rattle.ib_judging.specs.Words.{AreNoCall, IsCall}
 use Rattle.ib_judging.proofs.WordLemmas.{one_call}
 
 module _ (words : List (List ℕ)) (has has' : More) (old new : Streams) (answer : ℕ) where
-  pub answers_call : (call : Call) (task : Task) → IsCall words call → call.task ≡ task → IsAnswerOf task words call.traffic has has' old new answer → IsAnswerTo words has has' old new answer
+  pub answers_call : (call : Call) (task : Task) → IsCall words call → call.task ≡ task → IsAnswerOf task words call has has' old new answer → IsAnswerTo words has has' old new answer
   answers_call call task is same answers = record {
-    call = λ other too. subst (λ (c : Call). IsAnswerOf c.task words c.traffic has has' old new answer) (one_call words call other is too) (subst (λ (t : Task). IsAnswerOf t words call.traffic has has' old new answer) (sym same) answers);
+    call = λ other too. subst (λ (c : Call). IsAnswerOf c.task words c has has' old new answer) (one_call words call other is too) (subst (λ (t : Task). IsAnswerOf t words call has has' old new answer) (sym same) answers);
     usage = λ none. absurd (none call is);
   }
 

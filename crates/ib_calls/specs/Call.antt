@@ -1,10 +1,10 @@
 -- The answer to the words of a call.
 
-use Rattle.std.specs.Prelude.{◌≡◌, ℕ, List, Some, slice_get}
+use Rattle.std.specs.Prelude.{◌≡◌, ℕ, List, Some, slice_get, slice_index}
 use Rattle.outside.specs.Told.{Seen}
 use Rattle.ib_routes.specs.declared.traffic.Traffic.{Traffic}
 use Rattle.ib_answering.specs.Answer.{Gives, IsAnswer, IsUsageAnswer, Streams}
-use Rattle.ib_lane_lines.specs.declared.answer.LevelsAsked.{LevelsAsked}
+use Rattle.ib_lane_lines.specs.declared.answer.Asked.{Asked}
 use Rattle.ib_lane_commands.specs.Asked.{IsAskedBy}
 use Rattle.ib_lane_commands.specs.Inputs.{lane_sources}
 use Rattle.ib_lane_commands.specs.LaneCall.{IsLaneAnswer, LaneGives}
@@ -34,12 +34,15 @@ pub record IsRouteAnswerOf (traffic : Traffic) (has has' : More) (old new : Stre
   pub answers :
       IsRouteAnswer traffic old.read.topology new.read.topology old.out new.out old.err new.err answer
 
--- a command over lanes asks for the levels that its fourth file word names
-pub record IsLanesAnswerOf (gives : LevelsAsked → LaneGives) (words : List (List ℕ)) (has has' : More)
+-- a command over lanes asks for the levels that the word of its fourth file names
+pub record IsLanesAnswerOf (gives : Asked → LaneGives) (words : List (List ℕ)) (call : Call) (has has' : More)
     (old new : Streams) (answer : ℕ)
     : Type 0 where
-  pub asked : LevelsAsked
-  pub names : (word : List ℕ) → slice_get words 4 ≡ Some word → IsAskedBy word asked
+  pub asked : Asked
+  pub names :
+      (word : List ℕ) → slice_get words (slice_index call.files 3) ≡ Some word → IsAskedBy word asked.levels
+  pub replies : asked.replies ≡ call.replies
+  pub silent : asked.silent ≡ call.silent
   pub answers :
       IsLaneAnswer (gives asked) asked (lane_sources old.read.topology old.read.tables has.third has.fourth)
       (lane_sources new.read.topology new.read.tables has'.third has'.fourth) old.out new.out old.err new.err answer
@@ -55,20 +58,22 @@ pub record IsBetweenAnswerOf (has has' : More) (old new : Streams) (answer : ℕ
 abbrev pub IsAnswerFor : Gives → (has has' : More) → (old new : Streams) → ℕ → Type 0
 IsAnswerFor gives has has' old new answer = (has' ≡ has) × IsAnswer gives old new answer
 
--- the answer of a task
-abbrev pub IsAnswerOf : Task → List (List ℕ) → Traffic → (has has' : More) → (old new : Streams) → ℕ → Type 0
-IsAnswerOf (Answer question) words traffic has has' old new answer =
-    (has'.fourth ≡ has.fourth) × IsAnswerToQuestion question traffic has.third has'.third old new answer
-IsAnswerOf Route words traffic has has' old new answer = IsRouteAnswerOf traffic has has' old new answer
-IsAnswerOf Repair words traffic has has' old new answer = IsAnswerFor (gives_repair traffic) has has' old new answer
-IsAnswerOf Repaired words traffic has has' old new answer = IsAnswerFor (gives_repaired traffic) has has' old new answer
-IsAnswerOf Lanes words traffic has has' old new answer =
-    IsLanesAnswerOf (IsLaneJudged traffic) words has has' old new answer
-IsAnswerOf LanesDot words traffic has has' old new answer =
-    IsLanesAnswerOf (IsLaneDrawn traffic) words has has' old new answer
-IsAnswerOf Between words traffic has has' old new answer = IsBetweenAnswerOf has has' old new answer
+-- the answer of a task, by the words of a call and what they say
+abbrev pub IsAnswerOf : Task → List (List ℕ) → Call → (has has' : More) → (old new : Streams) → ℕ → Type 0
+IsAnswerOf (Answer question) words call has has' old new answer =
+    (has'.fourth ≡ has.fourth) × IsAnswerToQuestion question call.traffic has.third has'.third old new answer
+IsAnswerOf Route words call has has' old new answer = IsRouteAnswerOf call.traffic has has' old new answer
+IsAnswerOf Repair words call has has' old new answer =
+    IsAnswerFor (gives_repair call.traffic) has has' old new answer
+IsAnswerOf Repaired words call has has' old new answer =
+    IsAnswerFor (gives_repaired call.traffic) has has' old new answer
+IsAnswerOf Lanes words call has has' old new answer =
+    IsLanesAnswerOf (IsLaneJudged call.traffic) words call has has' old new answer
+IsAnswerOf LanesDot words call has has' old new answer =
+    IsLanesAnswerOf (IsLaneDrawn call.traffic) words call has has' old new answer
+IsAnswerOf Between words call has has' old new answer = IsBetweenAnswerOf has has' old new answer
 
 -- the answer to words: that of the call that they are, and the usage lines if they are none
 pub record IsAnswerTo (words : List (List ℕ)) (has has' : More) (old new : Streams) (answer : ℕ) : Type 0 where
-  pub call : (call : Call) → IsCall words call → IsAnswerOf call.task words call.traffic has has' old new answer
+  pub call : (call : Call) → IsCall words call → IsAnswerOf call.task words call has has' old new answer
   pub usage : AreNoCall words → (has' ≡ has) × IsUsageAnswer old new answer

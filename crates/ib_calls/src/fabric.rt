@@ -1,34 +1,43 @@
 //! The call.
 
-ghost use Rattle.std.specs.Prelude.{◌≡◌, ℕ, List, Some, slice_get};
+ghost use Rattle.std.specs.Prelude.{◌≡◌, ◌<◌, ℕ, IfSome, List, Some, slice_get, slice_index};
 ghost use Rattle.ib_answering.specs.Answer.{streams};
 ghost use Rattle.ib_calls.specs.Call.{IsAnswerTo, more};
-ghost use Rattle.ib_lane_commands.specs.Asked.{IsAskedBy, IsOneOfSixteen};
+ghost use Rattle.ib_lane_commands.specs.Asked.{HasLowLevels, IsAskedBy};
 
 use an_base::text::Word;
 use ib_answering::command::answer;
 use ib_answering::status::{Status, finish};
 use ib_between::between::between;
 use ib_judging::question::answer_question;
-use ib_judging::words::{Task, call_of};
+use ib_judging::words::{Call, Task, call_of};
 use ib_lane_commands::asked::asked_by;
 use ib_lane_commands::lanes::lanes;
 use ib_lane_commands::picture::draw_lanes;
-use ib_lane_lines::answer::LevelsAsked;
+use ib_lane_lines::answer::{Asked, LevelsAsked};
 use ib_repairing::commands::{Repair, RepairedTables};
 use ib_routing::route::route;
 use outside::sink::Sink;
 use outside::source::Source;
 use std::alloc::Global;
 
-// The levels for which words ask: the last one of four files names them.
-fn levels_asked(words: &[Word]) -> LevelsAsked
-    ensures named { (word : List ℕ) → slice_get words.now 4 ≡ Some word → IsAskedBy word result }
-    ensures low { IsOneOfSixteen result }
+// The levels for which the words of a call ask: the last one of four files names them.
+fn asked_for(words: &[Word], call: Call) -> Asked
+    requires { IfSome call.silent (λ level. level < 16) }
+    ensures named { (word : List ℕ) → slice_get words.now (slice_index call.files 3) ≡ Some word
+        → IsAskedBy word result.levels }
+    ensures replies { result.replies ≡ call.replies }
+    ensures silent { result.silent ≡ call.silent }
+    ensures low { HasLowLevels result }
 {
-    match words.get(4) {
+    let levels = match words.get(call.files[3]) {
         None => LevelsAsked::Any,
         Some(word) => asked_by(word),
+    };
+    Asked {
+        levels,
+        replies: call.replies,
+        silent: call.silent,
     }
 }
 
@@ -45,9 +54,10 @@ fn levels_asked(words: &[Word]) -> LevelsAsked
 /// - `lanes` TOPOLOGY TABLES SL2VL LEVELS writes the verdict for tables with lanes;
 /// - `between` TOPOLOGY OLD NEW writes whether channels may lead round while NEW replaces OLD.
 ///
-/// Then `hosts`, `lids` or `all` may follow, but not for `between`. TABLES and OLD are read from the second
-/// source, RANKS, SL2VL and NEW from the third, LEVELS from the fourth. If LEVELS are `any` or a number from
-/// 0 to 15, the fourth is left alone.
+/// Options may stand among them, and a traffic may follow (`ib_judging::words`). TABLES and OLD are read from the
+/// second source, RANKS, SL2VL and NEW from the third, LEVELS from the fourth. If LEVELS are `any` or a number from
+/// 0 to 15, the fourth is left alone. By `--replies no` a reply does not have the service level of its request; by
+/// `--silent` a pair that has none gets one.
 ///
 /// The answer is the number of how the call ended, and its line goes to err. If a source is wrong, those that
 /// are read after it are left alone, and out gains nothing. Of RANKS a faulty line is told only after
@@ -85,13 +95,13 @@ pub fn fabric<T: Source, S: Source, R: Source, L: Source, O: Sink, E: Sink>(
             err,
         ),
         Task::Lanes => {
-            let asked = levels_asked(words);
+            let asked = asked_for(words, call);
             lanes(
                 alloc, topology, tables, third, fourth, asked, out, err, traffic,
             )
         }
         Task::LanesDot => {
-            let asked = levels_asked(words);
+            let asked = asked_for(words, call);
             draw_lanes(
                 alloc, topology, tables, third, fourth, asked, out, err, traffic,
             )

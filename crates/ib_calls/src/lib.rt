@@ -1,6 +1,6 @@
 //! The call of `fabric`: the words of a call are those of one command, and it is answered.
 //!
-//! It stands on `ib_judging`, which has the words and the answers to questions about tables, on `ib_routing`, which makes
+//! It depends on `ib_judging`, which has the words and the answers to questions about tables, on `ib_routing`, which makes
 //! tables, on `ib_repairing`, which repairs them, on `ib_lane_commands` and on `ib_between`. Its one contract is that of
 //! `fabric::fabric`, and it never waits. Words that are no call leave the sources and out alone. With the statuses 0, 7
 //! and 8 of `judge` the bytes that the sources gave are the text of a fabric and of its tables, and out gained exactly the

@@ -3,7 +3,8 @@ use Rattle.std.proofs.Common.{◌≡◌, ◌≢◌, ◌∙◌, sym, ap, ℕ, ◌
 use Rattle.std.specs.Prelude.{nat_lt}
 use Rattle.std.proofs.lemmas.Bool.{cases_eq, cases_lt}
 use Rattle.std.proofs.lemmas.Bool.Decides.{nat_tests}
-use Rattle.std.proofs.lemmas.List.{get_or-set_other, get_or-set_same}
+use Rattle.std.proofs.lemmas.List.{get_or-set_other, get_or-set_same, get_or_past}
+use Rattle.std.proofs.Math.Nat.{mul-le-mul_right}
 use Rattle.std.proofs.lemmas.Nat.{same_from_place, mul-add-lt}
 use Rattle.ib_cells.specs.Cells.{CellsOf, place_of, port_of, tables_of, with_port}
 
@@ -90,3 +91,17 @@ place_low n blocks switch lid bytes low within count =
     let row : lid / 64 < blocks = omega arith in
     let outer = mul-add-lt (lid / 64) n switch blocks row low in
     omega arith
+
+-- beyond all blocks there are no bytes
+pub nothing_past : (n blocks switch lid : ℕ) (bytes : List ℕ) → length bytes ≡ blocks * n * 64 → 64 * blocks ≤ lid → tables_of (record { switches = n; blocks = blocks; bytes = bytes }) switch lid ≡ None
+nothing_past n blocks switch lid bytes count past = elim (cases_lt switch n) [
+  | inl within ↦ (
+      let t : ltb switch n ≡ true = grind (arith, nat_tests) in
+      let row : blocks ≤ lid / 64 = omega arith in
+      let most = mul-le-mul_right n row in
+      let beyond : length bytes ≤ place_of n switch lid = omega arith in
+      ap (λ (b : Bool). cond b (port_of (get_or bytes (place_of n switch lid) 255)) None) t ∙ ap port_of (get_or_past bytes (place_of n switch lid) 255 beyond))
+  | inr high ↦ (
+      let f : ltb switch n ≡ false = grind (arith, nat_tests) in
+      ap (λ (b : Bool). cond b (port_of (get_or bytes (place_of n switch lid) 255)) None) f)
+]

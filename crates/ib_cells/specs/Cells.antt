@@ -26,6 +26,10 @@ tables_of cells switch lid = if nat_lt switch cells.switches
     then port_of (slice_index_or cells.bytes (place_of cells.switches switch lid) 255)
     else None
 
+-- some switch has a port for the LID
+abbrev pub HasRow : TablesOf → ℕ → Type 0
+HasRow tables lid = (switch port : ℕ) × (tables switch lid ≡ Some port)
+
 -- the tables with one port more
 abbrev pub with_port : TablesOf → ℕ → ℕ → ℕ → TablesOf
 with_port tables switch lid port other_switch other_lid = if other_switch == switch && other_lid == lid

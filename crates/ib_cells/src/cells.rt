@@ -1,8 +1,8 @@
 //! The cells of the tables.
 
-ghost use Rattle.std.specs.Prelude.{◌≡◌, ◌<◌, ◌≤◌, ◌+◌, ◌*◌, ◌/◌, ◌^◌, ℕ, length, IfOk, None, Some};
+ghost use Rattle.std.specs.Prelude.{◌≡◌, ◌<◌, ◌≤◌, ◌+◌, ◌*◌, ◌/◌, ◌^◌, ◌↔◌, ℕ, length, max, IfOk, IsTrue, OnErr, OnOk, None, Some};
 ghost use Rattle.std.specs.Bool.{OnTrue, OnFalse};
-ghost use Rattle.ib_cells.specs.Cells.{AreCells, HasNoOther, HasOther, IsPut, tables_of};
+ghost use Rattle.ib_cells.specs.Cells.{AreCells, HasNoOther, HasOther, HasRow, IsPut, tables_of};
 
 use an_base::memory::OutOfMemory;
 use std::alloc::Global;
@@ -47,6 +47,21 @@ impl Cells {
         })
     }
 
+    /// Makes room for all LIDs below a number. Each port stays, and no LID has a new one. The error is out of memory:
+    /// then nothing is changed.
+    pub fn widen(&mut self, lids: usize) -> Result<(), OutOfMemory>
+        requires { lids ≤ 2 ^ 16 }
+        ensures switches { self.new.switches ≡ self.old.switches }
+        ensures blocks { OnOk result (self.new.blocks ≡ max self.old.blocks ((lids + 63) / 64)) }
+        ensures same { (switch lid : ℕ) → tables_of self.new switch lid ≡ tables_of self.old switch lid }
+        ensures unchanged { OnErr result (self.new ≡ self.old) }
+    {
+        let blocks = self.blocks.max((lids + 63) / 64);
+        self.bytes.resize(blocks * self.switches * 64, NO_PORT)?;
+        self.blocks = blocks;
+        Ok(())
+    }
+
     /// How many switches there are.
     pub fn switches(&self) -> usize
         ensures count { result ≡ self.now.switches }
@@ -55,10 +70,11 @@ impl Cells {
         self.switches
     }
 
-    /// How many blocks of 64 LIDs there are.
+    /// How many blocks of 64 LIDs there are. No switch has a port for a LID beyond them.
     pub fn blocks(&self) -> usize
         ensures count { result ≡ self.now.blocks }
         ensures most { result ≤ 1024 }
+        ensures past { (switch lid : ℕ) → 64 * self.now.blocks ≤ lid → tables_of self.now switch lid ≡ None }
     {
         self.blocks
     }
@@ -76,6 +92,20 @@ impl Cells {
             return None;
         }
         Some(port)
+    }
+
+    /// Whether some switch has a port for a LID of a block.
+    pub fn has_row(&self, block: usize, bit: usize) -> bool
+        requires block { block < self.now.blocks }
+        requires bit { bit < 64 }
+        ensures { IsTrue result ↔ HasRow (tables_of self.now) (64 * block + bit) }
+    {
+        'switches: for switch in 0..self.switches {
+            if self.port(switch, block, bit).is_some() {
+                return true;
+            }
+        }
+        false
     }
 
     // The port of a switch for a LID.

@@ -10,7 +10,7 @@ use Rattle.ib_verdict.specs.Verified.{IsVerified}
 use Rattle.ib_verdict.specs.Verdict.{CycleIs}
 use Rattle.ib_answering.specs.declared.status.Status.{Status}
 use Rattle.ib_answering.specs.declared.status.Status.TheVariants.{Ok, Usage, TopologyRefused, TopologyTooLong, TablesRefused, LanesRefused, LevelsRefused}
-use Rattle.ib_answering.specs.declared.status.Status.TheVariants.{NewTablesRefused, RanksRefused, RanksTooLong, ReadFault, WriteFault, RoutesLost, Cycle, RanksRise, OutOfMemory}
+use Rattle.ib_answering.specs.declared.status.Status.TheVariants.{NewTablesRefused, RanksRefused, RanksTooLong, ReadFault, WriteFault, RoutesLost, Cycle, RanksRise, Undecided, OutOfMemory}
 use Rattle.ib_answering.specs.Answer.{IsEnding}
 use Rattle.ib_commands.specs.Certified.{IsEndBy}
 use Rattle.ib_commands.specs.Judged.{IsEndOf, IsLoop}
@@ -42,6 +42,7 @@ module _ (fabric : FabricOf) (tables : TablesOf) (traffic : Traffic) where
   is_ending RoutesLost is = tt
   is_ending Cycle is = tt
   is_ending RanksRise is = absurd is
+  is_ending Undecided is = absurd is
   is_ending OutOfMemory is = absurd is
 
   pub is_ending_by : (rise : Option Rise) (status : Status) → IsEndBy fabric tables traffic rise status → IsEnding status
@@ -75,4 +76,5 @@ module _ (fabric : FabricOf) (tables : TablesOf) (traffic : Traffic) where
   cycle_status (one ∷ rest) is RoutesLost ends = absurd (ends.1.no_cycle _ _ is.least.from.closed)
   cycle_status (one ∷ rest) is Cycle ends = refl
   cycle_status (one ∷ rest) is RanksRise ends = absurd ends
+  cycle_status (one ∷ rest) is Undecided ends = absurd ends
   cycle_status (one ∷ rest) is OutOfMemory ends = absurd ends

@@ -27,7 +27,7 @@ use Rattle.ib_verdict.specs.Verdict.{HasRanks, rank_in, rank_over, spot_at}
 use Rattle.ib_verdict.specs.Verified.{Fall, told_rank}
 use Rattle.ib_verdict.proofs.NumberLemmas.{channel_back}
 use Rattle.ib_verdict.proofs.RankLemmas.{same_fall, told_fall}
-use Rattle.ib_ranks.specs.Ranks.{AddsTo, IsRanksText, Told, none_told, put_once, put_over, switch_told, told_by}
+use Rattle.ib_ranks.specs.Ranks.{AddsTo, IsRanksText, Told, none_told, put_once, put_over, switch_told, after_said}
 use Rattle.ib_lines.specs.declared.ranks.Rank.{Rank}
 use Rattle.ib_lines.specs.Ranks.{rank_row, ranks_text}
 use Rattle.ib_commands.specs.Certified.{AreSmall, rank_at, rank_of, ranks_of}
@@ -125,7 +125,7 @@ module _ (fabric : FabricOf) (is : IsFabric fabric) (ranks : List ℕ) (small : 
       let channel : Channel = channel_of (spot_at fabric.most place) in
       let leads = over_some (side_of fabric (place / fabric.most) (place % fabric.most + 1)) (slice_get ranks (number fabric (channel_of (spot_at fabric.most place)))) rank has in
       let here = number_there fabric place low in
-      ap (told_by fabric (told so_far)) (row_said (rank_of fabric (spot_at fabric.most place) rank) fits.0 (omega arith) fits.1)
+      ap (after_said fabric (told so_far)) (row_said (rank_of fabric (spot_at fabric.most place) rank) fits.0 (omega arith) fits.1)
       ∙ ap (λ (s : Option ℕ). switch_told fabric (told so_far) (place % fabric.most + 1) rank s) (switch_found fabric is (place / fabric.most) (switch_there fabric place low))
       ∙ ap (λ (side : Side). put_over (told so_far) (number fabric (channel_of (spot_at fabric.most place))) rank side) leads.2
       ∙ ap (λ (o : Option ℕ). put_once (told so_far) (number fabric (channel_of (spot_at fabric.most place))) rank o) (ap (λ (p : ℕ). get_or so_far p None) here ∙ none)
@@ -207,7 +207,7 @@ module _ (fabric : FabricOf) (is : IsFabric fabric) (ranks : List ℕ) (small : 
         reads = record {
           last = told all.0;
           good = subst (λ (ls : List (List ℕ)). LeadsBy (AddsTo fabric) (none_told fabric) ls (told all.0)) (sym lines)
-              (told (replicate (switch_count fabric * fabric.most) blank), ap (told_by fabric (none_told fabric)) head_said, all.2);
+              (told (replicate (switch_count fabric * fabric.most) blank), ap (after_said fabric (none_told fabric)) head_said, all.2);
           begun = refl;
           says = refl;
         };

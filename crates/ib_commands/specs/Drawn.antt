@@ -33,15 +33,15 @@ abbrev pub arrows_of : FabricOf → List LoopChannel → List Arrow
 arrows_of fabric = flat_map (arrow_at fabric)
 
 -- the switches of arrows, each once
-abbrev pub switches_of : List Arrow → List ℕ
-switches_of arrows = insert_all nat_eq [] (map (λ arrow. arrow.step.guid) arrows)
+abbrev pub arrow_switches : List Arrow → List ℕ
+arrow_switches arrows = insert_all nat_eq [] (map (λ arrow. arrow.step.guid) arrows)
 
 -- a picture of the channels of a loop, with the names of their switches
 pub record IsPictureOf (traffic : Traffic) (text : List ℕ) (fabric : FabricOf) (loop : List LoopChannel) (picture : Picture)
     : Type 0 where
   pub traffic_is : picture.traffic.now ≡ traffic_word traffic
   pub arrows : picture.arrows.items ≡ arrows_of fabric loop
-  pub names : picture.names.items ≡ names_for text (switches_of picture.arrows.items)
+  pub names : picture.names.items ≡ names_for text (arrow_switches picture.arrows.items)
 
 -- the picture of the least credit loop, or of none if there is none
 pub record IsDrawn (traffic : Traffic) (text : List ℕ) (fabric : FabricOf) (found : Tables) (status : Status)

@@ -1,6 +1,6 @@
 -- What `judge` gives for the text of a topology, its fabric and tables.
 
-use Rattle.std.specs.Prelude.{◌≡◌, ℕ, List, [], ◌∷◌, ◌++◌, length, map}
+use Rattle.std.specs.Prelude.{◌≡◌, ℕ, List, [], ◌∷◌, ◌++◌, Option, Some, None, length, map}
 use Rattle.std.specs.Option.{option_map, option_to_list}
 use Rattle.channel_graph.specs.Cycles.{HasNoCycle, IsCycle}
 use Rattle.ib_net.specs.declared.node.EndPort.TheVariants.{Switch}
@@ -8,24 +8,26 @@ use Rattle.ib_net.specs.Fabric.{FabricOf, guid_of, switch_count}
 use Rattle.ib_cells.specs.Cells.{TablesOf, tables_of}
 use Rattle.ib_counts.specs.declared.counts.Counts.{Counts}
 use Rattle.ib_counts.specs.declared.counts.Loss.{Loss}
-use Rattle.ib_counts.specs.declared.counts.Losses.{Losses as Counted}
+use Rattle.ib_counts.specs.declared.counts.Losses.{Losses}
 use Rattle.ib_counts.specs.declared.counts.LostRoute.{LostRoute}
 use Rattle.ib_counts.specs.Counts.{AreCounts, sum_of}
 use Rattle.ib_routes.specs.declared.traffic.Traffic.{Traffic}
+use Rattle.ib_routes.specs.declared.traffic.Traffic.TheVariants.{Hosts, Lids, Managed, All, Rows}
 use Rattle.ib_routes.specs.Found.{SomeIsStopped}
 use Rattle.ib_routes.specs.Routes.{Channel, DependsOn}
 use Rattle.ib_tables.specs.declared.reader.Tables.{Tables}
+use Rattle.ib_topology.specs.Unset.{unset_of}
 use Rattle.ib_verdict.specs.Count.{IsChannelCount, IsDependencyCount, IsLinkCount}
 use Rattle.ib_verdict.specs.declared.verdict.LoopChannel.{LoopChannel}
 use Rattle.ib_verdict.specs.Verdict.{CycleIs, HasRanks, Passes}
 use Rattle.ib_lines.specs.declared.answer.Answer.{Answer}
-use Rattle.ib_lines.specs.declared.answer.Cause.{Cause}
-use Rattle.ib_lines.specs.declared.answer.Cause.TheVariants.{Missing, Dead, Wrong, Loop}
-use Rattle.ib_lines.specs.declared.answer.Losses.{Losses}
+use Rattle.ib_lines.specs.declared.answer.LoopStep.{LoopStep}
 use Rattle.ib_lines.specs.declared.answer.Lost.{Lost}
+use Rattle.ib_lines.specs.declared.answer.LostCounts.{LostCounts}
 use Rattle.ib_lines.specs.declared.answer.Read.{Read}
 use Rattle.ib_lines.specs.declared.answer.Routes.{Routes}
-use Rattle.ib_lines.specs.declared.answer.Step.{Step}
+use Rattle.ib_lines.specs.declared.answer.WhyLost.{WhyLost}
+use Rattle.ib_lines.specs.declared.answer.WhyLost.TheVariants.{Missing, Dead, Wrong, Loop}
 use Rattle.ib_lines.specs.Answers.{answer_text}
 use Rattle.ib_answering.specs.declared.status.Status.{Status}
 use Rattle.ib_answering.specs.declared.status.Status.TheVariants.{Ok, RoutesLost, Cycle}
@@ -50,8 +52,22 @@ pub record IsRead (fabric : FabricOf) (found : Tables) (read : Read) : Type 0 wh
   pub rows : read.rows ≡ found.rows
   pub unowned : read.unowned ≡ found.unowned
 
-abbrev pub routes_of : Counts → Routes
-routes_of counts = record { routes = counts.routes; arrived = counts.arrived; hops = counts.hops }
+-- how many routes to LIDs that nobody owns arrive, if the traffic has such routes
+abbrev pub unowned_told : Traffic → ℕ → Option ℕ
+unowned_told Hosts many = None
+unowned_told Lids many = None
+unowned_told Managed many = None
+unowned_told All many = None
+unowned_told Rows many = Some many
+
+abbrev pub routes_of : Traffic → Counts → Routes
+routes_of traffic counts =
+    record {
+      routes = counts.routes;
+      arrived = counts.arrived;
+      hops = counts.hops;
+      unowned = unowned_told traffic counts.unowned;
+    }
 
 -- the least credit loop, or no channels if there is none
 abbrev pub IsLoop : FabricOf → TablesOf → Traffic → List LoopChannel → Type 0
@@ -59,7 +75,7 @@ IsLoop fabric tables traffic [] = HasNoCycle (DependsOn fabric tables traffic)
 IsLoop fabric tables traffic (one ∷ rest) = CycleIs fabric tables traffic (one ∷ rest)
 
 -- a channel of a credit loop, with the route that takes it and the next one
-abbrev pub step_of : FabricOf → LoopChannel → Step
+abbrev pub step_of : FabricOf → LoopChannel → LoopStep
 step_of fabric one =
     record {
       guid = guid_of fabric (Switch one.channel.switch);
@@ -69,7 +85,7 @@ step_of fabric one =
     }
 
 -- how many routes are lost, by cause
-abbrev pub losses_of : Counted → Losses
+abbrev pub losses_of : Losses → LostCounts
 losses_of lost =
     record {
       all = sum_of lost;
@@ -80,7 +96,7 @@ losses_of lost =
     }
 
 -- the least route that is lost by a cause, as an answer tells it
-abbrev pub lost_route : FabricOf → Cause → LostRoute → Lost
+abbrev pub lost_route : FabricOf → WhyLost → LostRoute → Lost
 lost_route fabric cause route =
     record {
       cause = cause;
@@ -90,11 +106,11 @@ lost_route fabric cause route =
     }
 
 -- none if no route is lost by it
-abbrev pub lost_by : FabricOf → Cause → Loss → List Lost
+abbrev pub lost_by : FabricOf → WhyLost → Loss → List Lost
 lost_by fabric cause loss = option_to_list (option_map (lost_route fabric cause) loss.least)
 
 -- those of all causes, in this order
-abbrev pub lost_of : FabricOf → Counted → List Lost
+abbrev pub lost_of : FabricOf → Losses → List Lost
 lost_of fabric lost =
     lost_by fabric Missing lost.missing ++ lost_by fabric Dead lost.dead ++ lost_by fabric Wrong lost.wrong
     ++ lost_by fabric Loop lost.looping
@@ -107,7 +123,7 @@ pub record IsAnswerFor (asked : Traffic) (text : List ℕ) (fabric : FabricOf) (
   pub traffic : answer.traffic.now ≡ traffic_word asked
   pub counts : Counts
   pub counted : AreCounts fabric (tables_of found.cells) asked counts
-  pub routes : answer.routes ≡ routes_of counts
+  pub routes : answer.routes ≡ routes_of asked counts
   pub channels : IsChannelCount fabric answer.channels
   pub dependencies : IsDependencyCount fabric (tables_of found.cells) asked answer.dependencies
   pub loop : List LoopChannel
@@ -115,6 +131,7 @@ pub record IsAnswerFor (asked : Traffic) (text : List ℕ) (fabric : FabricOf) (
   pub cycle : answer.cycle.items ≡ map (step_of fabric) loop
   pub losses : answer.losses ≡ losses_of counts.lost
   pub lost : answer.lost.items ≡ lost_of fabric counts.lost
+  pub unset : answer.unset ≡ unset_of text
   pub names : answer.names.items ≡ names_for text (mentioned answer.cycle.items answer.lost.items)
 
 -- the status means what is so of the tables, and what is written is the text of their answer

@@ -5,24 +5,24 @@ use Rattle.std.specs.List.{flat_map}
 use Rattle.indexmap.specs.IndexSet.{insert_all}
 use Rattle.ib_lines.specs.declared.answer.Lost.{Lost}
 use Rattle.ib_lines.specs.declared.answer.Name.{Name}
-use Rattle.ib_lines.specs.declared.answer.Step.{Step}
+use Rattle.ib_lines.specs.declared.answer.LoopStep.{LoopStep}
 use Rattle.ib_names.specs.Names.{name_of}
 
 -- the GUIDs in steps of a cycle and in lost routes, as they stand there
-abbrev pub guids_of : List Step → List Lost → List ℕ
+abbrev pub guids_of : List LoopStep → List Lost → List ℕ
 guids_of cycle lost =
     flat_map (λ step. step.guid ∷ step.source ∷ []) cycle
     ++ flat_map (λ route. route.source ∷ route.at ∷ []) lost
 
 -- each of them once, at its first place
-abbrev pub mentioned : List Step → List Lost → List ℕ
+abbrev pub mentioned : List LoopStep → List Lost → List ℕ
 mentioned cycle lost = insert_all nat_eq [] (guids_of cycle lost)
 
 -- a node with its name, if it has one
-abbrev pub named : ℕ → Option (List ℕ) → List Name
-named guid None = []
-named guid (Some name) = record { guid = guid; text = name } ∷ []
+abbrev pub told_name : ℕ → Option (List ℕ) → List Name
+told_name guid None = []
+told_name guid (Some name) = record { guid = guid; text = name } ∷ []
 
 -- the names that a text tells of the nodes of GUIDs
 abbrev pub names_for : List ℕ → List ℕ → List Name
-names_for text = flat_map (λ guid. named guid (name_of text guid))
+names_for text = flat_map (λ guid. told_name guid (name_of text guid))

@@ -7,7 +7,7 @@ ghost use Rattle.ib_routes.specs.declared.traffic.Traffic.{Traffic};
 ghost use Rattle.ib_tables.specs.Reads.{HasCells};
 ghost use Rattle.ib_verdict.specs.Count.{IsChannelCount, IsLinkCount};
 ghost use Rattle.ib_verdict.specs.Judgements.{IsJudgement};
-ghost use Rattle.ib_commands.specs.Judged.{IsAnswerFor, IsEndOf, IsLoop, IsRead, routes_of};
+ghost use Rattle.ib_commands.specs.Judged.{IsAnswerFor, IsEndOf, IsLoop, IsRead, routes_of, unowned_told};
 
 use crate::losses::{losses_of, lost_of};
 use crate::names::names_in;
@@ -64,12 +64,13 @@ pub fn answer_for(
     Ok(Answer {
         read: read_of(fabric, tables, links.links),
         traffic: word_of(traffic),
-        routes: routes_of(counts),
+        routes: routes_of(traffic, counts),
         channels: links.channels,
         dependencies: judged.dependencies,
         cycle,
         losses: losses_of(counts),
         lost,
+        unset: topology.unset as u64,
         names,
     })
 }
@@ -98,12 +99,26 @@ pub fn read_of(fabric: &Fabric, tables: &Tables, links: u64) -> Read
     }
 }
 
-fn routes_of(counts: Counts) -> Routes
-    ensures { result ≡ routes_of counts }
+fn routes_of(traffic: Traffic, counts: Counts) -> Routes
+    ensures { result ≡ routes_of traffic counts }
 {
     Routes {
         routes: counts.routes,
         arrived: counts.arrived,
         hops: u64::from(counts.hops),
+        unowned: unowned_told(traffic, counts.unowned),
+    }
+}
+
+/// How many routes to LIDs that nobody owns arrive, if the traffic has such routes.
+pub fn unowned_told(traffic: Traffic, many: u64) -> Option<u64>
+    ensures { result ≡ unowned_told traffic many }
+{
+    match traffic {
+        Traffic::Hosts => None,
+        Traffic::Lids => None,
+        Traffic::Managed => None,
+        Traffic::All => None,
+        Traffic::Rows => Some(many),
     }
 }

@@ -4,7 +4,7 @@ ghost use Rattle.std.specs.Prelude.{◌≡◌, ◌++◌, IfOk, OnOk};
 ghost use Rattle.std.specs.Option.{option_to_list};
 ghost use Rattle.ib_net.specs.Fabric.{side_of};
 ghost use Rattle.ib_commands.specs.Given.{gives_drawn};
-ghost use Rattle.ib_commands.specs.Drawn.{IsPictureOf, arrow_at, arrows_of, switches_of};
+ghost use Rattle.ib_commands.specs.Drawn.{IsPictureOf, arrow_at, arrows_of, arrow_switches};
 
 use crate::answer::{cycle_of, status_of};
 use crate::names::names_for;
@@ -58,7 +58,7 @@ fn picture_of(
     ensures { IfOk result (IsPictureOf traffic topology.now.text.items topology.now.fabric cycle.now) }
 {
     let arrows = arrows_of(alloc, &topology.fabric, cycle)?;
-    let switches = switches_of(alloc, &arrows)?;
+    let switches = arrow_switches(alloc, &arrows)?;
     let names = names_for(alloc, &topology.text, &switches)?;
     Ok(Picture {
         traffic: word_of(traffic),
@@ -119,8 +119,8 @@ fn side_of(fabric: &Fabric, spot: Spot) -> Side
 }
 
 // The switches of arrows.
-fn switches_of(alloc: Global, arrows: &[Arrow]) -> Result<IndexSet<u64>, OutOfMemory>
-    ensures { IfOk result (λ switches. switches.keys ≡ switches_of arrows.now) }
+fn arrow_switches(alloc: Global, arrows: &[Arrow]) -> Result<IndexSet<u64>, OutOfMemory>
+    ensures { IfOk result (λ switches. switches.keys ≡ arrow_switches arrows.now) }
 {
     let mut switches = IndexSet::new(alloc);
     'arrows: for arrow in arrows {

@@ -5,18 +5,18 @@ ghost use Rattle.ib_counts.specs.Counts.{sum_of};
 ghost use Rattle.ib_commands.specs.Judged.{losses_of, lost_by, lost_of};
 
 use an_base::memory::OutOfMemory;
-use ib_counts::counts::{Counts, Loss, Losses as Counted};
-use ib_lines::answer::{Cause, Losses, Lost};
+use ib_counts::counts::{Counts, Loss, Losses};
+use ib_lines::answer::{Lost, LostCounts, WhyLost};
 use ib_net::fabric::Fabric;
 use ib_net::node::EndPort;
 use std::alloc::Global;
 
 /// How many routes are lost, by cause.
-pub fn losses_of(counts: Counts) -> Losses
+pub fn losses_of(counts: Counts) -> LostCounts
     requires { counts.routes ≡ counts.arrived + sum_of counts.lost }
     ensures { result ≡ losses_of counts.lost }
 {
-    Losses {
+    LostCounts {
         all: counts.routes - counts.arrived,
         missing: counts.lost.missing.count,
         dead: counts.lost.dead.count,
@@ -26,14 +26,14 @@ pub fn losses_of(counts: Counts) -> Losses
 }
 
 /// The least lost route of each cause that occurs.
-pub fn lost_of(alloc: Global, fabric: &Fabric, counted: Counted) -> Result<Vec<Lost>, OutOfMemory>
+pub fn lost_of(alloc: Global, fabric: &Fabric, counted: Losses) -> Result<Vec<Lost>, OutOfMemory>
     ensures { IfOk result (λ lost. lost.items ≡ lost_of fabric.now counted) }
 {
     let mut lost = Vec::new(alloc);
-    push_lost(&mut lost, fabric, Cause::Missing, counted.missing)?;
-    push_lost(&mut lost, fabric, Cause::Dead, counted.dead)?;
-    push_lost(&mut lost, fabric, Cause::Wrong, counted.wrong)?;
-    push_lost(&mut lost, fabric, Cause::Loop, counted.looping)?;
+    push_lost(&mut lost, fabric, WhyLost::Missing, counted.missing)?;
+    push_lost(&mut lost, fabric, WhyLost::Dead, counted.dead)?;
+    push_lost(&mut lost, fabric, WhyLost::Wrong, counted.wrong)?;
+    push_lost(&mut lost, fabric, WhyLost::Loop, counted.looping)?;
     Ok(lost)
 }
 
@@ -41,7 +41,7 @@ pub fn lost_of(alloc: Global, fabric: &Fabric, counted: Counted) -> Result<Vec<L
 fn push_lost(
     lost: &mut Vec<Lost>,
     fabric: &Fabric,
-    cause: Cause,
+    cause: WhyLost,
     loss: Loss,
 ) -> Result<(), OutOfMemory>
     ensures { OnOk result (lost.new.items ≡ lost.old.items ++ lost_by fabric.now cause loss) }

@@ -2,11 +2,11 @@
 
 ghost use Rattle.std.specs.Prelude.{◌≡◌, ◌++◌, OnOk, IfOk, nat_eq, option_copied};
 ghost use Rattle.indexmap.specs.IndexSet.{insert_key};
-ghost use Rattle.ib_commands.specs.Names.{mentioned, named, names_for};
+ghost use Rattle.ib_commands.specs.Names.{mentioned, told_name, names_for};
 
 use an_base::memory::OutOfMemory;
 use an_base::text::Word;
-use ib_lines::answer::{Lost, Name, Step};
+use ib_lines::answer::{LoopStep, Lost, Name};
 use ib_names::names::names_of;
 use indexmap::IndexSet;
 use std::alloc::Global;
@@ -16,7 +16,7 @@ use std::alloc::Global;
 pub fn names_in(
     alloc: Global,
     text: &[u8],
-    steps: &[Step],
+    steps: &[LoopStep],
     lost: &[Lost],
 ) -> Result<Vec<Name>, OutOfMemory>
     ensures { IfOk result (λ names. names.items ≡ names_for text.now (mentioned steps.now lost.now)) }
@@ -48,7 +48,7 @@ fn push_name(
     guid: u64,
     name: Option<&Word>,
 ) -> Result<(), OutOfMemory>
-    ensures { OnOk result (names.new.items ≡ names.old.items ++ named guid (option_copied name.entry)) }
+    ensures { OnOk result (names.new.items ≡ names.old.items ++ told_name guid (option_copied name.entry)) }
 {
     let Some(name) = name else {
         return Ok(());
@@ -59,7 +59,7 @@ fn push_name(
 }
 
 // The nodes of steps and of lost routes.
-fn guids_in(alloc: Global, steps: &[Step], lost: &[Lost]) -> Result<IndexSet<u64>, OutOfMemory>
+fn guids_in(alloc: Global, steps: &[LoopStep], lost: &[Lost]) -> Result<IndexSet<u64>, OutOfMemory>
     ensures { IfOk result (λ guids. guids.keys ≡ mentioned steps.now lost.now) }
 {
     let mut guids = IndexSet::new(alloc);

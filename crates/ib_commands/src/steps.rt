@@ -4,7 +4,7 @@ ghost use Rattle.std.specs.Prelude.{◌≡◌, map, IfOk};
 ghost use Rattle.ib_commands.specs.Judged.{step_of};
 
 use an_base::memory::OutOfMemory;
-use ib_lines::answer::Step;
+use ib_lines::answer::LoopStep;
 use ib_net::fabric::Fabric;
 use ib_net::node::EndPort;
 use ib_verdict::verdict::LoopChannel;
@@ -15,7 +15,7 @@ pub fn steps_of(
     alloc: Global,
     fabric: &Fabric,
     cycle: &[LoopChannel],
-) -> Result<Vec<Step>, OutOfMemory>
+) -> Result<Vec<LoopStep>, OutOfMemory>
     ensures { IfOk result (λ steps. steps.items ≡ map (step_of fabric.now) cycle.now) }
 {
     let mut steps = Vec::with_capacity(alloc, cycle.len())?;
@@ -26,10 +26,10 @@ pub fn steps_of(
 }
 
 /// The same of one channel.
-pub fn step_of(fabric: &Fabric, one: LoopChannel) -> Step
+pub fn step_of(fabric: &Fabric, one: LoopChannel) -> LoopStep
     ensures { result ≡ step_of fabric.now one }
 {
-    Step {
+    LoopStep {
         guid: fabric.guid(EndPort::Switch(one.channel.switch)),
         port: one.channel.port,
         lid: one.witness.lid,

@@ -12,6 +12,8 @@ pub fn word_of(traffic: Traffic) -> &'static str
     match traffic {
         Traffic::Hosts => "hosts",
         Traffic::Lids => "lids",
+        Traffic::Managed => "managed",
         Traffic::All => "all",
+        Traffic::Rows => "rows",
     }
 }

@@ -14,7 +14,7 @@ use Rattle.ib_routes.specs.declared.hop.Outcome.TheVariants.{Arrives, Stops, Loo
 use Rattle.ib_routes.specs.declared.traffic.Traffic.{Traffic}
 use Rattle.ib_routes.specs.Routes.{EndsAs, IsSource, WalksBy}
 use Rattle.ib_routes.proofs.ChannelLemmas.{hop_within}
-use Rattle.ib_routes.proofs.StartLemmas.{start_low}
+use Rattle.ib_routes.proofs.StartLemmas.{sender_is, start_low}
 
 module _ (hop_at : ℕ → Hop) (start : ℕ) where
   arrive_last : (at : ℕ) → hop_at at ≡ Arrive → (port next : ℕ) → hop_at at ≡ On port next → ⊥
@@ -92,9 +92,10 @@ pub begins_at : (fabric : FabricOf) (traffic : Traffic) (source : EndPort) → I
 begins_at fabric traffic (Host end) is = is
 begins_at fabric traffic (Switch switch) is = (switch, refl)
 
-pub some_outcome : (fabric : FabricOf) → IsFabric fabric → (tables : TablesOf) (traffic : Traffic) (route : Route) → IsOf fabric traffic route → (outcome : Outcome) × RouteEnds fabric tables route outcome
+pub some_outcome : (fabric : FabricOf) → IsFabric fabric → (tables : TablesOf) (traffic : Traffic) (route : Route) → IsOf fabric tables traffic route → (outcome : Outcome) × RouteEnds fabric tables route outcome
 some_outcome fabric fits tables traffic route is =
-    let begins = begins_at fabric traffic route.source is.is_source in
-    let low = start_low fabric fits traffic route.source begins.0 is.is_source begins.1 in
+    let source = sender_is fabric tables traffic route.lid route.source is in
+    let begins = begins_at fabric traffic route.source source in
+    let low = start_low fabric fits traffic route.source begins.0 source begins.1 in
     let ends = some_ending (hop_for fabric tables route.lid) begins.0 (switch_count fabric) low (λ at port next on. hop_within fabric fits tables at route.lid port next on) in
     (ends.0, record { start = begins.0; begins = begins.1; ends = ends.1 })

@@ -1,3 +1,4 @@
+mod SendLemmas
 pub mod LostLemmas
 pub mod EndLemmas
 mod MoreLemmas

@@ -13,7 +13,7 @@ use Rattle.ib_routes.specs.declared.hop.Outcome.TheVariants.{Arrives}
 use Rattle.ib_routes.specs.declared.traffic.Traffic.{Traffic}
 use Rattle.ib_routes.specs.Routes.{EndsAs, Sends}
 use Rattle.ib_routes.specs.Waves.{AreStarts, HasBit}
-use Rattle.ib_routes.proofs.StartLemmas.{start_low}
+use Rattle.ib_routes.proofs.StartLemmas.{sender_is, start_low}
 
 module _ (hop_at : ℕ → Hop) (words : List ℕ) (bit : ℕ) where
   pub longest_first : AreLongest hop_at words bit 0 0
@@ -53,25 +53,26 @@ module _ (hop_at : ℕ → Hop) (words : List ℕ) (bit : ℕ) where
     | inr (has, (switches, ends, most)) ↦ longest_one count hops switches longer has ends most are
   ]
 
-module _ (fabric : FabricOf) (fits : IsFabric fabric) (tables : TablesOf) (traffic : Traffic) (lid : ℕ) (words : List ℕ) (starts : AreStarts fabric traffic (lid / 64) words) where
+module _ (fabric : FabricOf) (fits : IsFabric fabric) (tables : TablesOf) (traffic : Traffic) (lid : ℕ) (words : List ℕ) (starts : AreStarts fabric tables traffic (lid / 64) words) where
   same_lid : 64 * (lid / 64) + lid % 64 ≡ lid
   same_lid = omega arith
 
   low_bit : lid % 64 < 64
   low_bit = omega arith
 
-  has_start : (source : EndPort) (start : ℕ) → Sends fabric traffic lid source → start_of fabric source ≡ Some start → HasBit words start (lid % 64)
-  has_start source start sends begins = (starts start (lid % 64) low_bit).1 (source, subst (λ (l : ℕ). Sends fabric traffic l source) (sym same_lid) sends, begins)
+  has_start : (source : EndPort) (start : ℕ) → Sends fabric tables traffic lid source → start_of fabric source ≡ Some start → HasBit words start (lid % 64)
+  has_start source start sends begins = (starts start (lid % 64) low_bit).1 (source, subst (λ (l : ℕ). Sends fabric tables traffic l source) (sym same_lid) sends, begins)
 
   pub arrive_within : (count hops : ℕ) → count ≡ switch_count fabric → AreLongest (hop_for fabric tables lid) words (lid % 64) count hops → AllArriveWithin fabric tables traffic lid hops
   arrive_within count hops whole are = record {
     all = λ source sends.
-        let begins = begins_at fabric traffic source sends.is_source in
-        let low = start_low fabric fits traffic source begins.0 sends.is_source begins.1 in
+        let is = sender_is fabric tables traffic lid source sends in
+        let begins = begins_at fabric traffic source is in
+        let low = start_low fabric fits traffic source begins.0 is begins.1 in
         let one = are.all begins.0 (omega arith) (has_start source begins.0 sends begins.1) in
         (one.0, record { start = begins.0; begins = begins.1; ends = one.1 }, one.2);
     some = λ not_none.
         let one = are.some not_none in
         let from = (starts one.0 (lid % 64) low_bit).0 one.1 in
-        (from.0, subst (λ (l : ℕ). Sends fabric traffic l from.0) same_lid from.1, record { start = one.0; begins = from.2; ends = one.2 });
+        (from.0, subst (λ (l : ℕ). Sends fabric tables traffic l from.0) same_lid from.1, record { start = one.0; begins = from.2; ends = one.2 });
   }

@@ -1,19 +1,19 @@
 -- Counts of more routes: of the same ones, of one more, and of more that all arrive.
-use Rattle.std.proofs.Common.{◌≡◌, ◌≢◌, ◌∙◌, sym, ap, subst, ℕ, ◌+◌, ◌≤◌, ◌⊎◌, Option, Some, None, arith, inl, inr, max}
+use Rattle.std.proofs.Common.{◌≡◌, ◌≢◌, ◌∙◌, sym, ap, subst, refl, ℕ, ◌+◌, ◌≤◌, ◌⊎◌, Option, Some, None, arith, inl, inr, max}
 use Rattle.std.specs.Prelude.{MatchOption}
 use Rattle.std.proofs.lemmas.Bool.{cases_lt}
 use Rattle.ib_cells.specs.Cells.{TablesOf}
-use Rattle.ib_counts.specs.Counts.{AreCountsOf, AreLosses, AreMostHops, IsLeastLost, IsLoss, IsOneThat, IsOneThatArrives, Route, RouteEnds, RouteIsLost, route_of, sum_of}
+use Rattle.ib_counts.specs.Counts.{AreCountsOf, AreLosses, AreMostHops, IsLeastLost, IsLoss, IsOneThat, IsOneThatArrives, IsOneToNobody, Route, RouteEnds, RouteIsLost, route_of, sum_of}
 use Rattle.ib_routes.specs.Counting.{IsCountOf}
 use Rattle.ib_counts.specs.declared.counts.Counts.{Counts}
 use Rattle.ib_counts.specs.declared.counts.Loss.{Loss}
 use Rattle.ib_counts.specs.declared.counts.Losses.{Losses}
 use Rattle.ib_counts.specs.declared.counts.LostRoute.{LostRoute}
-use Rattle.ib_counts.specs.Steps.{IsLesser}
+use Rattle.ib_counts.specs.Steps.{IsLesser, unowned_of}
 use Rattle.ib_routes.proofs.CountLemmas.{count_more, count_none, count_same, count_sum}
 use Rattle.ib_counts.proofs.EndLemmas.{one_outcome}
 use Rattle.ib_net.specs.declared.node.EndPort.{EndPort}
-use Rattle.ib_net.specs.Fabric.{FabricOf, guid_of}
+use Rattle.ib_net.specs.Fabric.{FabricOf, guid_of, owner_of}
 use Rattle.ib_routes.specs.declared.hop.Cause.TheVariants.{Missing, Dead, Wrong}
 use Rattle.ib_routes.specs.declared.hop.Outcome.{Outcome}
 use Rattle.ib_routes.specs.declared.hop.Outcome.TheVariants.{Arrives, Stops, Loops}
@@ -48,6 +48,7 @@ module _ (fabric : FabricOf) (tables : TablesOf) (Is More : Route → Type 0) (t
   counts_same counts from are = record {
     routes = count_same Route Is More counts.routes to from are.routes;
     arrived = count_same Route (IsOneThatArrives fabric tables Is) (IsOneThatArrives fabric tables More) counts.arrived (λ route one. (one.0, (to route one.1.0, one.1.1))) (λ route one. (one.0, (from route one.1.0, one.1.1))) are.arrived;
+    unowned = count_same Route (IsOneToNobody fabric tables Is) (IsOneToNobody fabric tables More) counts.unowned (λ route one. ((one.0.0, (to route one.0.1.0, one.0.1.1)), one.1)) (λ route one. ((one.0.0, (from route one.0.1.0, one.0.1.1)), one.1)) are.unowned;
     hops = record {
       most = λ route switches one. are.hops.most route switches (from route one.0, one.1);
       some = λ not_none. (let one = are.hops.some not_none in (one.0, (to one.0 one.1.0, one.1.1)));
@@ -148,6 +149,20 @@ module _ (fabric : FabricOf) (tables : TablesOf) (Is More : Route → Type 0) (t
         (λ route one. elim (back route one.1.0) [ inl old ↦ inl (one.0, (old, one.1.1)) | inr same ↦ inr same ])
         (switches, (is_new, subst (RouteEnds fabric tables new) is_outcome ends)) (λ one. fresh one.1.0) is
 
+    -- to nobody, or to the owner of the LID
+    pub unowned_more : (owner : Option EndPort) → owner_of fabric lid ≡ owner → (switches count : ℕ) → outcome ≡ Arrives switches → IsCountOf (IsOneToNobody fabric tables Is) count → IsCountOf (IsOneToNobody fabric tables More) (count + unowned_of owner 1)
+    unowned_more None owns switches count is_outcome is = count_more Route (IsOneToNobody fabric tables Is) (IsOneToNobody fabric tables More) new count
+        (λ route one. ((one.0.0, (to route one.0.1.0, one.0.1.1)), one.1))
+        (λ route one. elim (back route one.0.1.0) [ inl old ↦ inl ((one.0.0, (old, one.0.1.1)), one.1) | inr same ↦ inr same ])
+        ((switches, (is_new, subst (RouteEnds fabric tables new) is_outcome ends)), owns) (λ one. fresh one.0.1.0) is
+    unowned_more (Some owner) owns switches count is_outcome is = subst (λ (n : ℕ). IsCountOf (IsOneToNobody fabric tables More) n) (let e : count ≡ count + 0 = omega arith in e)
+        (count_same Route (IsOneToNobody fabric tables Is) (IsOneToNobody fabric tables More) count
+        (λ route one. ((one.0.0, (to route one.0.1.0, one.0.1.1)), one.1))
+        (λ route one. elim (back route one.0.1.0) [
+          | inl old ↦ ((one.0.0, (old, one.0.1.1)), one.1)
+          | inr same ↦ absurd (let none = one.1 in let by_route : owner_of fabric route.lid ≡ owner_of fabric lid = ap (λ (r : Route). owner_of fabric r.lid) same in cc)
+        ]) is)
+
     pub hops_more : (switches hops most : ℕ) → outcome ≡ Arrives switches → most ≡ max hops switches → AreMostHops fabric tables Is hops → AreMostHops fabric tables More most
     hops_more switches hops most is_outcome is_most are = record {
       most = λ route others one. elim (back route one.0) [
@@ -174,6 +189,11 @@ module _ (fabric : FabricOf) (tables : TablesOf) (Is More : Route → Type 0) (t
         (λ route one. (one.0, (to route one.1.0, one.1.1)))
         (λ route one. (one.0, (not_new (Arrives one.0) (differs one.0) route one.1, one.1.1))) is
 
+    pub unowned_same : (count : ℕ) → ((switches : ℕ) → Arrives switches ≢ outcome) → IsCountOf (IsOneToNobody fabric tables Is) count → IsCountOf (IsOneToNobody fabric tables More) count
+    unowned_same count differs is = count_same Route (IsOneToNobody fabric tables Is) (IsOneToNobody fabric tables More) count
+        (λ route one. ((one.0.0, (to route one.0.1.0, one.0.1.1)), one.1))
+        (λ route one. ((one.0.0, (not_new (Arrives one.0.0) (differs one.0.0) route one.0.1, one.0.1.1)), one.1)) is
+
     pub hops_same : (hops : ℕ) → ((switches : ℕ) → Arrives switches ≢ outcome) → AreMostHops fabric tables Is hops → AreMostHops fabric tables More hops
     hops_same hops differs are = record {
       most = λ route switches one. are.most route switches (not_new (Arrives switches) (differs switches) route one, one.1);
@@ -181,10 +201,11 @@ module _ (fabric : FabricOf) (tables : TablesOf) (Is More : Route → Type 0) (t
     }
 
     -- all counts
-    pub counts_arrive : (switches most : ℕ) (counts : Counts) → outcome ≡ Arrives switches → most ≡ max counts.hops switches → AreCountsOf fabric tables Is counts → AreCountsOf fabric tables More (record { routes = counts.routes + 1; arrived = counts.arrived + 1; hops = most; lost = counts.lost })
+    pub counts_arrive : (switches most : ℕ) (counts : Counts) → outcome ≡ Arrives switches → most ≡ max counts.hops switches → AreCountsOf fabric tables Is counts → AreCountsOf fabric tables More (record { routes = counts.routes + 1; arrived = counts.arrived + 1; unowned = counts.unowned + unowned_of (owner_of fabric lid) 1; hops = most; lost = counts.lost })
     counts_arrive switches most counts is_outcome is_most are = record {
       routes = routes_more counts.routes are.routes;
       arrived = arrived_more switches counts.arrived is_outcome are.arrived;
+      unowned = unowned_more (owner_of fabric lid) refl switches counts.unowned is_outcome are.unowned;
       hops = hops_more switches counts.hops most is_outcome is_most are.hops;
       lost = record {
         missing = other_loss (Stops Missing) counts.lost.missing (λ e. (let f = e ∙ is_outcome in absurd (cc))) are.lost.missing;
@@ -195,10 +216,11 @@ module _ (fabric : FabricOf) (tables : TablesOf) (Is More : Route → Type 0) (t
       all = (let all = are.all in omega arith);
     }
 
-    pub counts_lost : (counts : Counts) (lost : Losses) → ((switches : ℕ) → Arrives switches ≢ outcome) → sum_of lost ≡ sum_of counts.lost + 1 → AreLosses fabric tables More lost → AreCountsOf fabric tables Is counts → AreCountsOf fabric tables More (record { routes = counts.routes + 1; arrived = counts.arrived; hops = counts.hops; lost = lost })
+    pub counts_lost : (counts : Counts) (lost : Losses) → ((switches : ℕ) → Arrives switches ≢ outcome) → sum_of lost ≡ sum_of counts.lost + 1 → AreLosses fabric tables More lost → AreCountsOf fabric tables Is counts → AreCountsOf fabric tables More (record { routes = counts.routes + 1; arrived = counts.arrived; unowned = counts.unowned; hops = counts.hops; lost = lost })
     counts_lost counts lost differs sum losses are = record {
       routes = routes_more counts.routes are.routes;
       arrived = arrived_same counts.arrived differs are.arrived;
+      unowned = unowned_same counts.unowned differs are.unowned;
       hops = hops_same counts.hops differs are.hops;
       lost = losses;
       all = (let all = are.all in omega arith);
@@ -218,6 +240,20 @@ module _ (fabric : FabricOf) (tables : TablesOf) (Is New More : Route → Type 0
       (λ route one. (let arrives = all route one in (arrives.0, (add route one, arrives.1))))
       (λ route one. elim (back route one.1.0) [ inl old ↦ inl (one.0, (old, one.1.1)) | inr now ↦ inr now ])
       (λ route one now. apart route one.1.0 now) is new
+
+  all_unowned : (owner : Option EndPort) → ((route : Route) → New route → owner_of fabric route.lid ≡ owner) → (m n : ℕ) → IsCountOf (IsOneToNobody fabric tables Is) m → IsCountOf New n → IsCountOf (IsOneToNobody fabric tables More) (m + unowned_of owner n)
+  all_unowned None owners m n is new = count_sum Route (IsOneToNobody fabric tables Is) New (IsOneToNobody fabric tables More) m n
+      (λ route one. ((one.0.0, (to route one.0.1.0, one.0.1.1)), one.1))
+      (λ route one. (let arrives = all route one in ((arrives.0, (add route one, arrives.1)), owners route one)))
+      (λ route one. elim (back route one.0.1.0) [ inl old ↦ inl ((one.0.0, (old, one.0.1.1)), one.1) | inr now ↦ inr now ])
+      (λ route one now. apart route one.0.1.0 now) is new
+  all_unowned (Some owner) owners m n is new = subst (λ (k : ℕ). IsCountOf (IsOneToNobody fabric tables More) k) (let e : m ≡ m + 0 = omega arith in e)
+      (count_same Route (IsOneToNobody fabric tables Is) (IsOneToNobody fabric tables More) m
+      (λ route one. ((one.0.0, (to route one.0.1.0, one.0.1.1)), one.1))
+      (λ route one. elim (back route one.0.1.0) [
+        | inl old ↦ ((one.0.0, (old, one.0.1.1)), one.1)
+        | inr now ↦ absurd (let none = one.1 in let owned = owners route now in cc)
+      ]) is)
 
   all_hops : (before most : ℕ) → most ≡ max before hops → AreMostHops fabric tables Is before → AreMostHops fabric tables More most
   all_hops before most is_most are = record {
@@ -242,10 +278,11 @@ module _ (fabric : FabricOf) (tables : TablesOf) (Is New More : Route → Type 0
     ];
   }
 
-  pub counts_all_arrive : (counts : Counts) (routes most : ℕ) → most ≡ max counts.hops hops → IsCountOf New routes → AreCountsOf fabric tables Is counts → AreCountsOf fabric tables More (record { routes = counts.routes + routes; arrived = counts.arrived + routes; hops = most; lost = counts.lost })
-  counts_all_arrive counts routes most is_most new are = record {
+  pub counts_all_arrive : (owner : Option EndPort) → ((route : Route) → New route → owner_of fabric route.lid ≡ owner) → (counts : Counts) (routes most : ℕ) → most ≡ max counts.hops hops → IsCountOf New routes → AreCountsOf fabric tables Is counts → AreCountsOf fabric tables More (record { routes = counts.routes + routes; arrived = counts.arrived + routes; unowned = counts.unowned + unowned_of owner routes; hops = most; lost = counts.lost })
+  counts_all_arrive owner owners counts routes most is_most new are = record {
     routes = count_sum Route Is New More counts.routes routes to add back apart are.routes new;
     arrived = all_arrived counts.arrived routes are.arrived new;
+    unowned = all_unowned owner owners counts.unowned routes are.unowned new;
     hops = all_hops counts.hops most is_most are.hops;
     lost = record {
       missing = loss_same fabric tables Is More to (Stops Missing) (no_new (Stops Missing) (λ s e. absurd (cc))) counts.lost.missing are.lost.missing;

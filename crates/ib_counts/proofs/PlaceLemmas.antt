@@ -1,19 +1,19 @@
 -- Routes LID by LID, and of each end port by end port.
-use Rattle.std.proofs.Common.{◌≡◌, ◌∙◌, sym, ap, subst, refl, ℕ, ◌+◌, ◌<◌, ◌≤◌, ◌⊎◌, ◌↔◌, Bool, true, false, Some, arith, length, inl, inr}
+use Rattle.std.proofs.Common.{◌≡◌, ◌∙◌, sym, ap, subst, refl, ℕ, ◌+◌, ◌*◌, ◌<◌, ◌≤◌, ◌⊎◌, ◌↔◌, Bool, true, false, None, arith, length, inl, inr}
 use Rattle.std.specs.Int.{from_bool}
 use Rattle.std.specs.Prelude.{IsTrue}
 use Rattle.std.proofs.lemmas.Bool.{cases_eq, cases_lt}
+use Rattle.ib_cells.specs.Cells.{TablesOf}
 use Rattle.ib_counts.specs.Counts.{IsOf, Route}
 use Rattle.ib_routes.specs.Counting.{IsCountOf}
 use Rattle.ib_counts.specs.Steps.{IsEndPort, IsSourceUntil, IsUntil, place_of}
 use Rattle.ib_routes.proofs.CountLemmas.{count_none, count_image, count_more, count_same}
 use Rattle.ib_net.specs.declared.node.EndPort.{EndPort}
 use Rattle.ib_net.specs.declared.node.EndPort.TheVariants.{Host, Switch}
-use Rattle.ib_net.specs.Fabric.{FabricOf, owner_of, switch_count}
+use Rattle.ib_net.specs.Fabric.{FabricOf, switch_count}
 use Rattle.ib_routes.specs.declared.traffic.Traffic.{Traffic}
-use Rattle.ib_routes.specs.Routes.{IsSource, IsTarget, Sends}
-use Rattle.ib_routes.proofs.StartLemmas.{cabled_low, source_low}
-use Rattle.ib_routes.proofs.WitnessLemmas.{owned_low}
+use Rattle.ib_routes.specs.Routes.{IsSource, Sends}
+use Rattle.ib_routes.proofs.StartLemmas.{cabled_low, sender_is, sent_low, source_low}
 
 module _ (fabric : FabricOf) where
   -- one end port stands at a place
@@ -28,7 +28,7 @@ module _ (fabric : FabricOf) where
   place_low (Switch a) is = omega arith
 
   pub end_port : (traffic : Traffic) (source : EndPort) → IsSource fabric traffic source → IsEndPort fabric source
-  end_port traffic (Host end) is = cabled_low fabric traffic end is.0 is.1
+  end_port traffic (Host end) is = cabled_low fabric end is.0 is.1
   end_port traffic (Switch switch) is = source_low fabric traffic switch is
 
 -- the sources, one after the other
@@ -59,91 +59,85 @@ module _ (fabric : FabricOf) (traffic : Traffic) where
   sources_all place count last = count_same EndPort (IsSourceUntil fabric traffic place) (IsSource fabric traffic) count
       (λ source one. one.0) (λ source is. (is, (let low = place_low fabric source (end_port fabric traffic source is) in omega arith)))
 
-  -- who sends to a LID: each source but its owner
-  pub senders_of : (lid count : ℕ) (owner : EndPort) → owner_of fabric lid ≡ Some owner → IsTarget fabric traffic owner → IsCountOf (λ source. IsSource fabric traffic source × (source ≡ owner → ⊥)) count → IsCountOf (Sends fabric traffic lid) count
-  senders_of lid count owner owns target = count_same EndPort (λ source. IsSource fabric traffic source × (source ≡ owner → ⊥)) (Sends fabric traffic lid) count
-      (λ source one. record { is_source = one.0; owner = owner; owns = owns; is_target = target; other = one.1 })
-      (λ source sends. (sends.is_source, λ same. sends.other (same ∙ (let o = sends.owns in cc))))
-
 -- the routes, LID by LID
-module _ (fabric : FabricOf) (traffic : Traffic) (lid : ℕ) where
-  pub until_to : (place : ℕ) (route : Route) → IsUntil fabric traffic lid place route → IsUntil fabric traffic lid (place + 1) route
+module _ (fabric : FabricOf) (tables : TablesOf) (traffic : Traffic) (lid : ℕ) where
+  pub until_to : (place : ℕ) (route : Route) → IsUntil fabric tables traffic lid place route → IsUntil fabric tables traffic lid (place + 1) route
   until_to place route (is, before) = (is, elim before [ inl less ↦ inl less | inr here ↦ inr (here.0, (let low = here.1 in omega arith)) ])
 
-  pub until_from : (place : ℕ) (at : EndPort) → IsEndPort fabric at → place_of fabric at ≡ place → (route : Route) → IsUntil fabric traffic lid (place + 1) route → IsUntil fabric traffic lid place route ⊎ (route ≡ record { lid = lid; source = at })
+  pub until_from : (place : ℕ) (at : EndPort) → IsEndPort fabric at → place_of fabric at ≡ place → (route : Route) → IsUntil fabric tables traffic lid (place + 1) route → IsUntil fabric tables traffic lid place route ⊎ (route ≡ record { lid = lid; source = at })
   until_from place at is same route (sends, inl less) = inl (sends, inl less)
   until_from place at is same route (sends, inr (here, low)) = elim (cases_eq (place_of fabric route.source) place) [
     | inr before ↦ inl (sends, inr (here, omega arith))
     | inl last ↦ (
-        let e = one_place fabric route.source at (end_port fabric traffic route.source sends.is_source) is (last ∙ sym same) in
+        let e = one_place fabric route.source at (end_port fabric traffic route.source (sender_is fabric tables traffic route.lid route.source sends)) is (last ∙ sym same) in
         let by_lid : ℕ → Route = λ l. record { lid = l; source = route.source } in
         let by_source : EndPort → Route = λ s. record { lid = lid; source = s } in
         inr (ap by_lid here ∙ ap by_source e))
   ]
 
-  pub until_late : (place : ℕ) (route : Route) → IsUntil fabric traffic lid place route → route.lid ≤ lid
+  pub until_late : (place : ℕ) (route : Route) → IsUntil fabric tables traffic lid place route → route.lid ≤ lid
   until_late place route (is, inl less) = omega arith
   until_late place route (is, inr (here, low)) = omega arith
 
-  pub until_fresh : (place : ℕ) (at : EndPort) → place_of fabric at ≡ place → IsUntil fabric traffic lid place (record { lid = lid; source = at }) → ⊥
+  pub until_fresh : (place : ℕ) (at : EndPort) → place_of fabric at ≡ place → IsUntil fabric tables traffic lid place (record { lid = lid; source = at }) → ⊥
   until_fresh place at same (is, inl less) = absurd (omega arith)
   until_fresh place at same (is, inr (here, low)) = absurd (omega arith)
 
   -- an end port that does not send to it
-  pub until_silent : (place : ℕ) (at : EndPort) → IsEndPort fabric at → place_of fabric at ≡ place → (Sends fabric traffic lid at → ⊥) → (route : Route) → IsUntil fabric traffic lid (place + 1) route → IsUntil fabric traffic lid place route
+  pub until_silent : (place : ℕ) (at : EndPort) → IsEndPort fabric at → place_of fabric at ≡ place → (Sends fabric tables traffic lid at → ⊥) → (route : Route) → IsUntil fabric tables traffic lid (place + 1) route → IsUntil fabric tables traffic lid place route
   until_silent place at is same silent route until = elim (until_from place at is same route until) [
     | inl old ↦ old
-    | inr here ↦ absurd (silent (subst (IsOf fabric traffic) here until.0))
+    | inr here ↦ absurd (silent (subst (IsOf fabric tables traffic) here until.0))
   ]
 
   -- all end ports
-  pub until_next : (place : ℕ) (route : Route) → IsUntil fabric traffic lid place route → IsUntil fabric traffic (lid + 1) 0 route
+  pub until_next : (place : ℕ) (route : Route) → IsUntil fabric tables traffic lid place route → IsUntil fabric tables traffic (lid + 1) 0 route
   until_next place route (is, inl less) = (is, inl (omega arith))
   until_next place route (is, inr (here, low)) = (is, inl (omega arith))
 
-  pub until_all : (place : ℕ) → place ≡ length fabric.cables + switch_count fabric → (route : Route) → IsUntil fabric traffic (lid + 1) 0 route → IsUntil fabric traffic lid place route
+  pub until_all : (place : ℕ) → place ≡ length fabric.cables + switch_count fabric → (route : Route) → IsUntil fabric tables traffic (lid + 1) 0 route → IsUntil fabric tables traffic lid place route
   until_all place last route (is, inl less) = elim (cases_lt route.lid lid) [
     | inl before ↦ (is, inl before)
-    | inr here ↦ (is, inr (omega arith, (let low = place_low fabric route.source (end_port fabric traffic route.source is.is_source) in omega arith)))
+    | inr here ↦ (is, inr (omega arith, (let low = place_low fabric route.source (end_port fabric traffic route.source (sender_is fabric tables traffic route.lid route.source is)) in omega arith)))
   ]
   until_all place last route (is, inr (here, low)) = absurd (omega arith)
 
   -- a LID to which no one sends
-  pub until_unsent : ((source : EndPort) → Sends fabric traffic lid source → ⊥) → (route : Route) → IsUntil fabric traffic (lid + 1) 0 route → IsUntil fabric traffic lid 0 route
+  pub until_unsent : ((source : EndPort) → Sends fabric tables traffic lid source → ⊥) → (route : Route) → IsUntil fabric tables traffic (lid + 1) 0 route → IsUntil fabric tables traffic lid 0 route
   until_unsent none route (is, inl less) = elim (cases_eq route.lid lid) [
-    | inl here ↦ absurd (none route.source (subst (λ (l : ℕ). Sends fabric traffic l route.source) here is))
+    | inl here ↦ absurd (none route.source (subst (λ (l : ℕ). Sends fabric tables traffic l route.source) here is))
     | inr before ↦ (is, inl (omega arith))
   ]
   until_unsent none route (is, inr (here, low)) = absurd (omega arith)
 
   -- its routes
   abbrev pub IsTo : Route → Type 0
-  IsTo route = IsOf fabric traffic route × (route.lid ≡ lid)
+  IsTo route = IsOf fabric tables traffic route × (route.lid ≡ lid)
 
-  pub until_to_lid : (route : Route) → IsTo route → IsUntil fabric traffic (lid + 1) 0 route
+  pub until_to_lid : (route : Route) → IsTo route → IsUntil fabric tables traffic (lid + 1) 0 route
   until_to_lid route (is, here) = (is, inl (omega arith))
 
-  pub until_or_to : (route : Route) → IsUntil fabric traffic (lid + 1) 0 route → IsUntil fabric traffic lid 0 route ⊎ IsTo route
+  pub until_or_to : (route : Route) → IsUntil fabric tables traffic (lid + 1) 0 route → IsUntil fabric tables traffic lid 0 route ⊎ IsTo route
   until_or_to route (is, inl less) = elim (cases_eq route.lid lid) [
     | inl here ↦ inr (is, here)
     | inr before ↦ inl (is, inl (omega arith))
   ]
   until_or_to route (is, inr (here, low)) = absurd (omega arith)
 
-  pub until_not_to : (route : Route) → IsUntil fabric traffic lid 0 route → IsTo route → ⊥
+  pub until_not_to : (route : Route) → IsUntil fabric tables traffic lid 0 route → IsTo route → ⊥
   until_not_to route (is, inl less) (is_to, here) = absurd (omega arith)
   until_not_to route (is, inr (here, low)) to = absurd (omega arith)
 
-  pub count_to : (count : ℕ) → IsCountOf (Sends fabric traffic lid) count → IsCountOf IsTo count
-  count_to count = count_image EndPort Route (λ source. record { lid = lid; source = source }) (Sends fabric traffic lid) IsTo count
+  pub count_to : (count : ℕ) → IsCountOf (Sends fabric tables traffic lid) count → IsCountOf IsTo count
+  count_to count = count_image EndPort Route (λ source. record { lid = lid; source = source }) (Sends fabric tables traffic lid) IsTo count
       (λ source sends. (sends, refl))
-      (λ route to. (route.source, subst (λ (l : ℕ). Sends fabric traffic l route.source) to.1 to.0, (let by_lid : ℕ → Route = λ l. record { lid = l; source = route.source } in ap by_lid (sym to.1))))
+      (λ route to. (route.source, subst (λ (l : ℕ). Sends fabric tables traffic l route.source) to.1 to.0, (let by_lid : ℕ → Route = λ l. record { lid = l; source = route.source } in ap by_lid (sym to.1))))
       (λ one other same. ap (λ (r : Route). r.source) same)
 
--- all LIDs
-pub until_lids : (fabric : FabricOf) (traffic : Traffic) (lid : ℕ) → length fabric.owners ≤ lid → (route : Route) → IsOf fabric traffic route → IsUntil fabric traffic lid 0 route
-until_lids fabric traffic lid last route is = (is, inl (let low = owned_low fabric traffic route.lid route.source is in omega arith))
+-- all LIDs of owners and of the tables
+pub until_lids : (fabric : FabricOf) (tables : TablesOf) (traffic : Traffic) (blocks : ℕ) → length fabric.owners ≤ 64 * blocks → ((switch lid : ℕ) → 64 * blocks ≤ lid → tables switch lid ≡ None) → (route : Route) → IsOf fabric tables traffic route → IsUntil fabric tables traffic (64 * blocks) 0 route
+until_lids fabric tables traffic blocks owners past route is = (is, inl (sent_low fabric tables traffic blocks owners past route.lid route.source is))
 
-pub until_none : (fabric : FabricOf) (traffic : Traffic) (route : Route) → IsUntil fabric traffic 0 0 route → ⊥
-until_none fabric traffic route (is, inl less) = absurd (omega arith)
-until_none fabric traffic route (is, inr (here, low)) = absurd (omega arith)
+pub until_none : (fabric : FabricOf) (tables : TablesOf) (traffic : Traffic) (route : Route) → IsUntil fabric tables traffic 0 0 route → ⊥
+until_none fabric tables traffic route (is, inl less) = absurd (omega arith)
+until_none fabric tables traffic route (is, inr (here, low)) = absurd (omega arith)

@@ -1,12 +1,12 @@
 -- How many routes there are, how many of them arrive, and how many are lost by each cause.
-use Rattle.std.specs.Prelude.{◌≡◌, ◌≢◌, ◌≤◌, ◌+◌, ℕ, Some, MatchOption}
+use Rattle.std.specs.Prelude.{◌≡◌, ◌≢◌, ◌≤◌, ◌+◌, ℕ, Some, None, MatchOption}
 use Rattle.ib_cells.specs.Cells.{TablesOf}
 use Rattle.ib_counts.specs.declared.counts.Counts.{Counts}
 use Rattle.ib_counts.specs.declared.counts.Loss.{Loss}
 use Rattle.ib_counts.specs.declared.counts.Losses.{Losses}
 use Rattle.ib_counts.specs.declared.counts.LostRoute.{LostRoute}
 use Rattle.ib_net.specs.declared.node.EndPort.{EndPort}
-use Rattle.ib_net.specs.Fabric.{FabricOf, guid_of, start_of}
+use Rattle.ib_net.specs.Fabric.{FabricOf, guid_of, owner_of, start_of}
 use Rattle.ib_routes.specs.declared.hop.Cause.TheVariants.{Missing, Dead, Wrong}
 use Rattle.ib_routes.specs.declared.hop.Hop.{Hop}
 use Rattle.ib_routes.specs.declared.hop.Hop.TheVariants.{Stop}
@@ -22,8 +22,8 @@ pub record Route : Type 0 where
   pub source : EndPort
 
 -- a route of the traffic
-abbrev pub IsOf : FabricOf → Traffic → Route → Type 0
-IsOf fabric traffic route = Sends fabric traffic route.lid route.source
+abbrev pub IsOf : FabricOf → TablesOf → Traffic → Route → Type 0
+IsOf fabric tables traffic route = Sends fabric tables traffic route.lid route.source
 
 -- what each switch does with what goes to a LID
 abbrev pub hop_for : FabricOf → TablesOf → ℕ → ℕ → Hop
@@ -78,6 +78,10 @@ module _ (fabric : FabricOf) (tables : TablesOf) (Is : Route → Type 0) where
   abbrev pub IsOneThatArrives : Route → Type 0
   IsOneThatArrives route = (switches : ℕ) × IsOneThat (Arrives switches) route
 
+  -- .. one arrives, and nobody owns its LID
+  abbrev pub IsOneToNobody : Route → Type 0
+  IsOneToNobody route = IsOneThatArrives route × (owner_of fabric route.lid ≡ None)
+
   -- .. those that arrive go through no more switches than so many, and one through so many: 0 if none arrives
   pub record AreMostHops (hops : ℕ) : Type 0 where
     pub most : (route : Route) (switches : ℕ) → IsOneThat (Arrives switches) route → switches ≤ hops
@@ -108,10 +112,11 @@ module _ (fabric : FabricOf) (tables : TablesOf) (Is : Route → Type 0) where
   pub record AreCountsOf (counts : Counts) : Type 0 where
     pub routes : IsCountOf Is counts.routes
     pub arrived : IsCountOf IsOneThatArrives counts.arrived
+    pub unowned : IsCountOf IsOneToNobody counts.unowned
     pub hops : AreMostHops counts.hops
     pub lost : AreLosses counts.lost
     pub all : counts.routes ≡ counts.arrived + sum_of counts.lost
 
 -- the counts of the routes of a traffic
 abbrev pub AreCounts : FabricOf → TablesOf → Traffic → Counts → Type 0
-AreCounts fabric tables traffic = AreCountsOf fabric tables (IsOf fabric traffic)
+AreCounts fabric tables traffic = AreCountsOf fabric tables (IsOf fabric tables traffic)

@@ -7,13 +7,17 @@ use Rattle.ib_counts.specs.Counts.{AreCountsOf, IsOf, Route, RouteEnds}
 use Rattle.ib_counts.specs.declared.counts.Counts.{Counts}
 use Rattle.ib_counts.specs.declared.counts.LostRoute.{LostRoute}
 use Rattle.ib_counts.specs.declared.room.Rooms.{Rooms}
+use Rattle.ib_counts.specs.declared.source.Heard.{Heard}
 use Rattle.ib_net.specs.declared.node.EndPort.{EndPort}
 use Rattle.ib_net.specs.declared.node.EndPort.TheVariants.{Host, Switch}
-use Rattle.ib_net.specs.Fabric.{FabricOf, guid_of, owner_of, switch_count}
+use Rattle.ib_net.specs.Fabric.{FabricOf, guid_of, switch_count}
+use Rattle.ib_routes.specs.declared.audience.Audience.TheVariants.{Hosts, Everyone}
 use Rattle.ib_routes.specs.declared.hop.Hop.{Hop}
 use Rattle.ib_routes.specs.declared.hop.Outcome.TheVariants.{Arrives}
 use Rattle.ib_routes.specs.declared.traffic.Traffic.{Traffic}
-use Rattle.ib_routes.specs.Routes.{EndsAs, IsSource, IsTarget, Sends}
+use Rattle.ib_routes.specs.Audience.{IsHeardFrom}
+use Rattle.ib_routes.specs.Counting.{IsCountOf}
+use Rattle.ib_routes.specs.Routes.{EndsAs, IsSource, Sends}
 use Rattle.ib_routes.specs.Waves.{HasBit}
 
 -- the place of an end port: those of adapters and routers first, then switches
@@ -31,24 +35,30 @@ abbrev pub IsSourceUntil : FabricOf → Traffic → ℕ → EndPort → Type 0
 IsSourceUntil fabric traffic place source = IsSource fabric traffic source × (place_of fabric source < place)
 
 -- a route to a lesser LID, or to this one from one of the first so many end ports
-abbrev pub IsUntil : FabricOf → Traffic → ℕ → ℕ → Route → Type 0
-IsUntil fabric traffic lid place route =
-    IsOf fabric traffic route
+abbrev pub IsUntil : FabricOf → TablesOf → Traffic → ℕ → ℕ → Route → Type 0
+IsUntil fabric tables traffic lid place route =
+    IsOf fabric tables traffic route
     × ((route.lid < lid) ⊎ ((route.lid ≡ lid) × (place_of fabric route.source < place)))
 
 -- those before an end port, and those up to it
-abbrev pub IsBefore : FabricOf → Traffic → ℕ → EndPort → Route → Type 0
-IsBefore fabric traffic lid source = IsUntil fabric traffic lid (place_of fabric source)
+abbrev pub IsBefore : FabricOf → TablesOf → Traffic → ℕ → EndPort → Route → Type 0
+IsBefore fabric tables traffic lid source = IsUntil fabric tables traffic lid (place_of fabric source)
 
-abbrev pub IsUpTo : FabricOf → Traffic → ℕ → EndPort → Route → Type 0
-IsUpTo fabric traffic lid source = IsUntil fabric traffic lid (place_of fabric source + 1)
+abbrev pub IsUpTo : FabricOf → TablesOf → Traffic → ℕ → EndPort → Route → Type 0
+IsUpTo fabric tables traffic lid source = IsUntil fabric tables traffic lid (place_of fabric source + 1)
 
 -- the counts of those, which are not too many
 pub record AreCountsUntil (fabric : FabricOf) (tables : TablesOf) (traffic : Traffic) (lid place : ℕ)
     (counts : Counts)
     : Type 0 where
-  pub exact : AreCountsOf fabric tables (IsUntil fabric traffic lid place) counts
+  pub exact : AreCountsOf fabric tables (IsUntil fabric tables traffic lid place) counts
   pub few : counts.routes ≤ lid * 2 ^ 17 + place
+  pub few_unowned : counts.unowned ≤ counts.arrived
+
+-- of so many routes that arrive, to one LID, those to a LID that nobody owns: by its owner all, or none
+abbrev pub unowned_of : Option EndPort → ℕ → ℕ
+unowned_of None routes = routes
+unowned_of (Some owner) routes = 0
 
 -- rooms for so many switches
 pub record AreRooms (count : ℕ) (rooms : Rooms) : Type 0 where
@@ -56,10 +66,12 @@ pub record AreRooms (count : ℕ) (rooms : Rooms) : Type 0 where
   pub marks : length rooms.marks.items ≡ count
   pub path : length rooms.path.items ≡ count
 
--- a LID to which some end ports may send
-abbrev pub IsTargeted : FabricOf → Traffic → ℕ → Type 0
-IsTargeted fabric traffic lid =
-    (owner : EndPort) × (owner_of fabric lid ≡ Some owner) × IsTarget fabric traffic owner
+-- so many end ports are of each audience
+pub record AreHeard (fabric : FabricOf) (heard : Heard) : Type 0 where
+  pub hosts : IsCountOf (IsHeardFrom fabric Hosts) heard.hosts
+  pub everyone : IsCountOf (IsHeardFrom fabric Everyone) heard.everyone
+  pub few_hosts : heard.hosts ≤ 2 ^ 17
+  pub few : heard.everyone ≤ 2 ^ 17
 
 -- a route to a LID is to be told in place of the least one so far, if there is one
 abbrev pub IsLesser : FabricOf → Option LostRoute → ℕ → EndPort → Type 0
@@ -71,12 +83,12 @@ IsLesser fabric (Some told) lid source =
 pub record AllArriveWithin (fabric : FabricOf) (tables : TablesOf) (traffic : Traffic) (lid hops : ℕ)
     : Type 0 where
   pub all :
-      (source : EndPort) → Sends fabric traffic lid source
+      (source : EndPort) → Sends fabric tables traffic lid source
       → (switches : ℕ) × RouteEnds fabric tables (record { lid = lid; source = source }) (Arrives switches)
       × (switches ≤ hops)
   pub some :
       hops ≢ 0
-      → (source : EndPort) × Sends fabric traffic lid source
+      → (source : EndPort) × Sends fabric tables traffic lid source
       × RouteEnds fabric tables (record { lid = lid; source = source }) (Arrives hops)
 
 -- each route arrives that begins at one of the first so many switches and has a bit, and the longest goes

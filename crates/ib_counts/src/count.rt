@@ -1,28 +1,29 @@
 //! How the routes of a traffic end, and how many do.
 
-ghost use Rattle.std.specs.Prelude.{◌≡◌, ◌<◌, ◌≤◌, ◌+◌, ◌*◌, ◌/◌, ◌%◌, ◌^◌, length, replicate, IfOk, IfSome};
+ghost use Rattle.std.specs.Prelude.{◌≡◌, ◌<◌, ◌≤◌, ◌+◌, ◌*◌, ◌/◌, ◌%◌, ◌^◌, ℕ, None, length, replicate, IfOk, IfSome};
 ghost use Rattle.ib_net.specs.Fabric.{switch_count};
 ghost use Rattle.ib_cells.specs.Cells.{tables_of};
 ghost use Rattle.ib_routes.specs.declared.trace.Mark.TheVariants.{New};
+ghost use Rattle.ib_routes.specs.Audience.{IsAudience};
 ghost use Rattle.ib_routes.specs.declared.traffic.Traffic.{Traffic};
-ghost use Rattle.ib_routes.specs.Routes.{EndsAs, IsSource};
+ghost use Rattle.ib_routes.specs.Routes.{EndsAs};
 ghost use Rattle.ib_routes.specs.Starts.{AreAllSenders};
 ghost use Rattle.ib_routes.specs.Trace.{IsReady, hop_to, whole};
 ghost use Rattle.ib_routes.specs.Waves.{AreStarts};
 ghost use Rattle.ib_counts.specs.Counts.{AreCounts, hop_for, sum_of};
-ghost use Rattle.ib_routes.specs.Counting.{IsCountOf};
-ghost use Rattle.ib_counts.specs.Steps.{AllArriveWithin, AreCountsUntil, AreRooms, IsEndPort, IsTargeted, place_of};
+ghost use Rattle.ib_counts.specs.Steps.{AllArriveWithin, AreCountsUntil, AreHeard, AreRooms, IsEndPort, place_of};
 
 use crate::counts::Counts;
 use crate::height::{clear, longer_from};
 use crate::room::Rooms;
-use crate::source::{count_senders, count_sources, end_port_at, end_ports};
+use crate::source::{Heard, count_heard, count_senders, end_port_at, end_ports};
 use an_base::memory::OutOfMemory;
 use ib_cells::cells::Cells;
 use ib_net::fabric::Fabric;
 use ib_net::node::EndPort;
+use ib_routes::audience::{Audience, audience_of, sender_start};
 use ib_routes::hop::Outcome;
-use ib_routes::start::{Senders, find_senders, is_target, put_starts, sender_start};
+use ib_routes::sender::{Senders, find_senders, put_starts};
 use ib_routes::trace::{Mark, Target, trace};
 use ib_routes::traffic::Traffic;
 use std::alloc::Global;
@@ -78,7 +79,7 @@ fn longest_to(
     requires size { length heights.old ≡ switch_count fabric.now }
     requires room { length path.old ≡ switch_count fabric.now }
     ensures { IfSome result (λ hops. (traffic : Traffic)
-        → AreStarts fabric.now traffic (lid / 64) starts.now
+        → AreStarts fabric.now (tables_of cells.now) traffic (lid / 64) starts.now
         → AllArriveWithin fabric.now (tables_of cells.now) traffic lid hops) }
 {
     clear(heights);
@@ -90,12 +91,12 @@ fn longest_to(
 }
 
 impl Counts {
-    // The route of an end port, if it sends to the LID.
+    // The route of an end port, if it sends to the LID, by the audience of the LID.
     fn add_source(
         &mut self,
         fabric: &Fabric,
         cells: &Cells,
-        traffic: Traffic,
+        audience: Audience,
         lid: u16,
         marks: &mut [Mark],
         path: &mut [u32],
@@ -108,15 +109,16 @@ impl Counts {
         requires ready { IsReady (hop_to fabric.now (tables_of cells.now) (whole lid)) (switch_count fabric.now)
             marks.old }
         requires source { IsEndPort fabric.now source }
-        requires low { place_of fabric.now source ≤ 2 ^ 17 }
-        requires counts { AreCountsUntil fabric.now (tables_of cells.now) traffic lid
-            (place_of fabric.now source) self.old }
+        requires all { self.old.routes ≡ self.old.arrived + sum_of self.old.lost }
+        requires unowned { self.old.unowned ≤ self.old.arrived }
+        requires fits { self.old.routes < 2 ^ 40 }
         ensures ready { IsReady (hop_to fabric.now (tables_of cells.now) (whole lid)) (switch_count fabric.now)
             marks.new }
-        ensures counts { AreCountsUntil fabric.now (tables_of cells.now) traffic lid (place_of fabric.now source + 1)
-            self.new }
+        ensures counts { (traffic : Traffic) → IsAudience fabric.now (tables_of cells.now) traffic lid audience
+            → AreCountsUntil fabric.now (tables_of cells.now) traffic lid (place_of fabric.now source) self.old
+            → AreCountsUntil fabric.now (tables_of cells.now) traffic lid (place_of fabric.now source + 1) self.new }
     {
-        let Some(start) = sender_start(fabric, traffic, lid as usize, source) else {
+        let Some(start) = sender_start(fabric, audience, lid as usize, source) else {
             return;
         };
         let outcome = end_from(fabric, cells, lid, marks, path, start as usize);
@@ -142,22 +144,23 @@ impl Counts {
         ensures { AreCountsUntil fabric.now (tables_of cells.now) traffic (lid + 1) 0 result }
     {
         forget(marks);
+        let audience = audience_of(fabric, cells, traffic, lid as usize);
         let mut counts = self;
         'places: for place in 0..end_ports(fabric) {
             let source = end_port_at(fabric, place);
-            counts.add_source(fabric, cells, traffic, lid, marks, path, source);
+            counts.add_source(fabric, cells, audience, lid, marks, path, source);
         }
         counts
     }
 }
 
-// The counts with the routes to a LID to which some end ports send, if so many send at all.
-fn count_target(
+// The counts with the routes to a LID.
+fn count_lid(
     fabric: &Fabric,
     cells: &Cells,
     traffic: Traffic,
     lid: u16,
-    sources: u64,
+    heard: Heard,
     starts: &[u64],
     rooms: &mut Rooms,
     counts: Counts,
@@ -165,16 +168,18 @@ fn count_target(
     requires same { switch_count fabric.now ≡ cells.now.switches }
     requires switches { switch_count fabric.now ≤ 2 ^ 14 }
     requires lid { lid < 64 * cells.now.blocks }
-    requires target { IsTargeted fabric.now traffic lid }
-    requires sources { IsCountOf (IsSource fabric.now traffic) sources }
-    requires few { sources ≤ 2 ^ 17 }
+    requires heard { AreHeard fabric.now heard }
     requires count { length starts.now ≡ switch_count fabric.now }
-    requires starts { AreStarts fabric.now traffic (lid / 64) starts.now }
+    requires starts { AreStarts fabric.now (tables_of cells.now) traffic (lid / 64) starts.now }
     requires rooms { AreRooms (switch_count fabric.now) rooms.old }
     requires counts { AreCountsUntil fabric.now (tables_of cells.now) traffic lid 0 counts }
     ensures rooms { AreRooms (switch_count fabric.now) rooms.new }
     ensures counts { AreCountsUntil fabric.now (tables_of cells.now) traffic (lid + 1) 0 result }
 {
+    let audience = audience_of(fabric, cells, traffic, lid as usize);
+    if let Audience::Nobody = audience {
+        return counts;
+    }
     match longest_to(
         fabric,
         cells,
@@ -184,8 +189,8 @@ fn count_target(
         &mut rooms.path,
     ) {
         Some(hops) => {
-            let senders = count_senders(fabric, traffic, lid as usize, sources);
-            counts.with_arrived(senders, hops)
+            let senders = count_senders(fabric, audience, lid as usize, heard);
+            counts.with_arrived(fabric, lid, senders, hops)
         }
         None => counts.with_sources(
             fabric,
@@ -198,42 +203,13 @@ fn count_target(
     }
 }
 
-// The counts with the routes to a LID.
-fn count_lid(
-    fabric: &Fabric,
-    cells: &Cells,
-    traffic: Traffic,
-    lid: u16,
-    sources: u64,
-    starts: &[u64],
-    rooms: &mut Rooms,
-    counts: Counts,
-) -> Counts
-    requires same { switch_count fabric.now ≡ cells.now.switches }
-    requires switches { switch_count fabric.now ≤ 2 ^ 14 }
-    requires lid { lid < 64 * cells.now.blocks }
-    requires sources { IsCountOf (IsSource fabric.now traffic) sources }
-    requires few { sources ≤ 2 ^ 17 }
-    requires count { length starts.now ≡ switch_count fabric.now }
-    requires starts { AreStarts fabric.now traffic (lid / 64) starts.now }
-    requires rooms { AreRooms (switch_count fabric.now) rooms.old }
-    requires counts { AreCountsUntil fabric.now (tables_of cells.now) traffic lid 0 counts }
-    ensures rooms { AreRooms (switch_count fabric.now) rooms.new }
-    ensures counts { AreCountsUntil fabric.now (tables_of cells.now) traffic (lid + 1) 0 result }
-{
-    if !is_target(fabric, traffic, lid as usize) {
-        return counts;
-    }
-    count_target(fabric, cells, traffic, lid, sources, starts, rooms, counts)
-}
-
 // The counts with the routes to the LIDs of a block.
 fn count_block(
     fabric: &Fabric,
     cells: &Cells,
     traffic: Traffic,
     block: usize,
-    sources: u64,
+    heard: Heard,
     starts: &[u64],
     rooms: &mut Rooms,
     counts: Counts,
@@ -242,10 +218,9 @@ fn count_block(
     requires switches { switch_count fabric.now ≤ 2 ^ 14 }
     requires block { block < cells.now.blocks }
     requires low { block < 1024 }
-    requires sources { IsCountOf (IsSource fabric.now traffic) sources }
-    requires few { sources ≤ 2 ^ 17 }
+    requires heard { AreHeard fabric.now heard }
     requires count { length starts.now ≡ switch_count fabric.now }
-    requires starts { AreStarts fabric.now traffic block starts.now }
+    requires starts { AreStarts fabric.now (tables_of cells.now) traffic block starts.now }
     requires rooms { AreRooms (switch_count fabric.now) rooms.old }
     requires counts { AreCountsUntil fabric.now (tables_of cells.now) traffic (64 * block) 0 counts }
     ensures rooms { AreRooms (switch_count fabric.now) rooms.new }
@@ -254,7 +229,7 @@ fn count_block(
     let mut counts = counts;
     'bits: for bit in 0..64usize {
         let lid = (64 * block + bit) as u16;
-        counts = count_lid(fabric, cells, traffic, lid, sources, starts, rooms, counts);
+        counts = count_lid(fabric, cells, traffic, lid, heard, starts, rooms, counts);
     }
     counts
 }
@@ -270,25 +245,24 @@ fn count_blocks(
 ) -> Counts
     requires same { switch_count fabric.now ≡ cells.now.switches }
     requires switches { switch_count fabric.now ≤ 2 ^ 14 }
-    requires senders { AreAllSenders fabric.now traffic senders.now }
+    requires senders { AreAllSenders fabric.now senders.now }
     requires starts { length starts.old ≡ switch_count fabric.now }
     requires rooms { AreRooms (switch_count fabric.now) rooms.old }
     ensures counts { AreCountsUntil fabric.now (tables_of cells.now) traffic (64 * cells.now.blocks) 0 result }
     ensures low { cells.now.blocks ≤ 1024 }
+    ensures past { (switch lid : ℕ) → 64 * cells.now.blocks ≤ lid → tables_of cells.now switch lid ≡ None }
 {
-    let sources = count_sources(fabric, traffic);
+    let heard = count_heard(fabric);
     let mut counts = Counts::none();
     'rounds: for block in 0..cells.blocks() {
-        put_starts(fabric, traffic, block, senders, starts);
-        counts = count_block(
-            fabric, cells, traffic, block, sources, starts, rooms, counts,
-        );
+        put_starts(fabric, cells, traffic, block, senders, starts);
+        counts = count_block(fabric, cells, traffic, block, heard, starts, rooms, counts);
     }
     counts
 }
 
-/// How many routes of a traffic there are, how many arrive, through how many switches the longest of these
-/// goes, and those that do not arrive, by cause: of each the least and where it is lost.
+/// How many routes of a traffic there are, how many arrive, how many of these go to a LID that nobody owns, through how many
+/// switches the longest of them goes, and those that do not arrive, by cause: of each the least and where it is lost.
 pub fn count_routes(
     alloc: Global,
     fabric: &Fabric,
@@ -299,9 +273,10 @@ pub fn count_routes(
     requires owners { length fabric.now.owners ≤ 64 * cells.now.blocks }
     ensures counts { IfOk result (AreCounts fabric.now (tables_of cells.now) traffic) }
     ensures few { IfOk result (λ counts. sum_of counts.lost < 2 ^ 64) }
+    ensures unowned { IfOk result (λ counts. counts.unowned ≤ counts.arrived) }
     ensures most { IfOk result (λ counts. counts.routes ≤ 2 ^ 40) }
 {
-    let senders = find_senders(alloc, fabric, traffic)?;
+    let senders = find_senders(alloc, fabric)?;
     let mut starts = vec![in alloc; 0u64; fabric.switches()]?;
     let mut rooms = Rooms::new(alloc, fabric.switches())?;
     Ok(count_blocks(fabric, cells, traffic, &senders, &mut starts, &mut rooms))

@@ -42,6 +42,8 @@ pub struct Counts {
     pub routes: u64,
     /// How many of them arrive.
     pub arrived: u64,
+    /// How many of those that arrive go to a LID that nobody owns.
+    pub unowned: u64,
     /// The most switches of one route that arrives; 0 if none arrives.
     pub hops: u32,
     /// Those that do not arrive.

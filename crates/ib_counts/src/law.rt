@@ -11,7 +11,7 @@ ghost use Rattle.ib_routes.specs.declared.traffic.Traffic.{Traffic};
 /// for ever.
 pub fn each_route_ends_in_one_way()
     ensures ends { (fabric : FabricOf) (tables : TablesOf) (traffic : Traffic) (route : Route)
-        → IsFabric fabric → IsOf fabric traffic route
+        → IsFabric fabric → IsOf fabric tables traffic route
         → (outcome : Outcome) × RouteEnds fabric tables route outcome }
     ensures one { (fabric : FabricOf) (tables : TablesOf) (route : Route) (one other : Outcome)
         → RouteEnds fabric tables route one → RouteEnds fabric tables route other → one ≡ other }

@@ -1,17 +1,18 @@
 //! Counts with one route more.
 
 ghost use Rattle.std.specs.Prelude.{◌≡◌, ◌<◌, ◌≤◌, ◌+◌, ◌*◌, ◌^◌, ◌↔◌, None, Some, max, IsTrue};
-ghost use Rattle.ib_net.specs.Fabric.{start_of, switch_count};
+ghost use Rattle.ib_net.specs.Fabric.{owner_of, start_of, switch_count};
 ghost use Rattle.ib_cells.specs.Cells.{tables_of};
 ghost use Rattle.ib_routes.specs.declared.hop.Outcome.{Outcome};
 ghost use Rattle.ib_routes.specs.declared.hop.Outcome.TheVariants.{Loops, Stops};
 ghost use Rattle.ib_routes.specs.declared.traffic.Traffic.{Traffic};
 ghost use Rattle.ib_routes.specs.Routes.{EndsAs, Sends};
 ghost use Rattle.ib_counts.specs.Counts.{AreCountsOf, AreLosses, IsLoss, IsLost, hop_for, sum_of};
-ghost use Rattle.ib_counts.specs.Steps.{IsBefore, IsLesser, IsUpTo};
+ghost use Rattle.ib_counts.specs.Steps.{IsBefore, IsLesser, IsUpTo, unowned_of};
 
 use crate::counts::{Counts, Loss, Losses, LostRoute};
 use crate::lost::lost_at;
+use crate::source::unowned_of;
 use ib_cells::cells::Cells;
 use ib_net::fabric::Fabric;
 use ib_net::node::EndPort;
@@ -44,11 +45,11 @@ impl Loss {
         requires fits { self.old.count < 2 ^ 40 }
         ensures count { self.new.count ≡ self.old.count + 1 }
         ensures loss { (traffic : Traffic) (outcome : Outcome) → IsLost outcome
-            → Sends fabric.now traffic lid source
+            → Sends fabric.now (tables_of cells.now) traffic lid source
             → EndsAs (hop_for fabric.now (tables_of cells.now) lid) start outcome
-            → IsLoss fabric.now (tables_of cells.now) (IsBefore fabric.now traffic lid source)
+            → IsLoss fabric.now (tables_of cells.now) (IsBefore fabric.now (tables_of cells.now) traffic lid source)
             outcome self.old
-            → IsLoss fabric.now (tables_of cells.now) (IsUpTo fabric.now traffic lid source)
+            → IsLoss fabric.now (tables_of cells.now) (IsUpTo fabric.now (tables_of cells.now) traffic lid source)
             outcome self.new }
     {
         self.count += 1;
@@ -78,10 +79,10 @@ impl Losses {
         requires begins { start_of fabric.now source ≡ Some start }
         requires fits { sum_of self.old < 2 ^ 40 }
         ensures sum { sum_of self.new ≡ sum_of self.old + 1 }
-        ensures losses { (traffic : Traffic) → Sends fabric.now traffic lid source
+        ensures losses { (traffic : Traffic) → Sends fabric.now (tables_of cells.now) traffic lid source
             → EndsAs (hop_for fabric.now (tables_of cells.now) lid) start (Stops cause)
-            → AreLosses fabric.now (tables_of cells.now) (IsBefore fabric.now traffic lid source) self.old
-            → AreLosses fabric.now (tables_of cells.now) (IsUpTo fabric.now traffic lid source)
+            → AreLosses fabric.now (tables_of cells.now) (IsBefore fabric.now (tables_of cells.now) traffic lid source) self.old
+            → AreLosses fabric.now (tables_of cells.now) (IsUpTo fabric.now (tables_of cells.now) traffic lid source)
             self.new }
     {
         match cause {
@@ -100,10 +101,10 @@ impl Losses {
         requires begins { start_of fabric.now source ≡ Some start }
         requires fits { sum_of self.old < 2 ^ 40 }
         ensures sum { sum_of self.new ≡ sum_of self.old + 1 }
-        ensures losses { (traffic : Traffic) → Sends fabric.now traffic lid source
+        ensures losses { (traffic : Traffic) → Sends fabric.now (tables_of cells.now) traffic lid source
             → EndsAs (hop_for fabric.now (tables_of cells.now) lid) start Loops
-            → AreLosses fabric.now (tables_of cells.now) (IsBefore fabric.now traffic lid source) self.old
-            → AreLosses fabric.now (tables_of cells.now) (IsUpTo fabric.now traffic lid source)
+            → AreLosses fabric.now (tables_of cells.now) (IsBefore fabric.now (tables_of cells.now) traffic lid source) self.old
+            → AreLosses fabric.now (tables_of cells.now) (IsUpTo fabric.now (tables_of cells.now) traffic lid source)
             self.new }
     {
         self.looping.add(fabric, cells, lid, source, start);
@@ -116,6 +117,7 @@ impl Counts {
         ensures { result ≡ record {
           routes = 0;
           arrived = 0;
+          unowned = 0;
           hops = 0;
           lost = record {
             missing = record { count = 0; least = None };
@@ -128,6 +130,7 @@ impl Counts {
         Counts {
             routes: 0,
             arrived: 0,
+            unowned: 0,
             hops: 0,
             lost: Losses {
                 missing: Loss::NONE,
@@ -154,19 +157,22 @@ impl Counts {
         requires start { start < switch_count fabric.now }
         requires begins { start_of fabric.now source ≡ Some start }
         requires all { self.old.routes ≡ self.old.arrived + sum_of self.old.lost }
+        requires unowned { self.old.unowned ≤ self.old.arrived }
         requires fits { self.old.routes < 2 ^ 40 }
         ensures routes { self.new.routes ≡ self.old.routes + 1 }
-        ensures counts { (traffic : Traffic) → Sends fabric.now traffic lid source
+        ensures unowned { self.new.unowned ≤ self.new.arrived }
+        ensures counts { (traffic : Traffic) → Sends fabric.now (tables_of cells.now) traffic lid source
             → EndsAs (hop_for fabric.now (tables_of cells.now) lid) start outcome
             → AreCountsOf fabric.now (tables_of cells.now)
-            (IsBefore fabric.now traffic lid source) self.old
+            (IsBefore fabric.now (tables_of cells.now) traffic lid source) self.old
             → AreCountsOf fabric.now (tables_of cells.now)
-            (IsUpTo fabric.now traffic lid source) self.new }
+            (IsUpTo fabric.now (tables_of cells.now) traffic lid source) self.new }
     {
         self.routes += 1;
         match outcome {
             Outcome::Arrives(switches) => {
                 self.arrived += 1;
+                self.unowned += unowned_of(fabric, lid as usize, 1);
                 self.hops = self.hops.max(switches);
             }
             Outcome::Stops(cause) => self.lost.add(fabric, cells, lid, source, start, cause),
@@ -174,14 +180,16 @@ impl Counts {
         }
     }
 
-    /// So many more that all arrive, the longest of them through so many switches.
-    pub fn with_arrived(self, routes: u64, hops: u32) -> Counts
+    /// So many more to a LID that all arrive, the longest of them through so many switches.
+    pub fn with_arrived(self, fabric: &Fabric, lid: u16, routes: u64, hops: u32) -> Counts
         requires all { self.arrived ≤ self.routes }
+        requires unowned { self.unowned ≤ self.arrived }
         requires fits { self.routes < 2 ^ 40 }
         requires few { routes ≤ 2 ^ 17 }
         ensures { result ≡ record {
           routes = self.routes + routes;
           arrived = self.arrived + routes;
+          unowned = self.unowned + unowned_of (owner_of fabric.now lid) routes;
           hops = max self.hops hops;
           lost = self.lost;
         } }
@@ -189,6 +197,7 @@ impl Counts {
         Counts {
             routes: self.routes + routes,
             arrived: self.arrived + routes,
+            unowned: self.unowned + unowned_of(fabric, lid as usize, routes),
             hops: self.hops.max(hops),
             lost: self.lost,
         }

@@ -1,13 +1,15 @@
 //! The end ports that send, one after the other.
 
-ghost use Rattle.std.specs.Prelude.{◌≡◌, ◌≢◌, ◌<◌, ◌≤◌, ◌+◌, ◌^◌, length};
-ghost use Rattle.ib_net.specs.Fabric.{switch_count};
-ghost use Rattle.ib_routes.specs.Routes.{IsSource, Sends};
+ghost use Rattle.std.specs.Prelude.{◌≡◌, ◌≢◌, ◌<◌, ◌≤◌, ◌+◌, ◌^◌, Some, length};
+ghost use Rattle.ib_net.specs.Fabric.{owner_of, switch_count};
+ghost use Rattle.ib_routes.specs.Audience.{IsHeard};
 ghost use Rattle.ib_routes.specs.Counting.{IsCountOf};
-ghost use Rattle.ib_counts.specs.Steps.{IsEndPort, IsTargeted, place_of};
+ghost use Rattle.ib_routes.specs.Routes.{IsSource};
+ghost use Rattle.ib_counts.specs.Steps.{AreHeard, IsEndPort, place_of, unowned_of};
 
 use ib_net::fabric::Fabric;
 use ib_net::node::EndPort;
+use ib_routes::audience::Audience;
 use ib_routes::start::is_source;
 use ib_routes::traffic::Traffic;
 
@@ -47,6 +49,25 @@ pub fn count_sources(fabric: &Fabric, traffic: Traffic) -> u64
     count
 }
 
+/// How many end ports are of each audience.
+#[derive(Clone, Copy)]
+pub struct Heard {
+    /// Those of adapters and routers that are cabled to switches.
+    pub hosts: u64,
+    /// Those, and all switches.
+    pub everyone: u64,
+}
+
+/// How many are.
+pub fn count_heard(fabric: &Fabric) -> Heard
+    ensures { AreHeard fabric.now result }
+{
+    Heard {
+        hosts: count_sources(fabric, Traffic::Lids),
+        everyone: count_sources(fabric, Traffic::All),
+    }
+}
+
 // How many end ports but one send, if so many do at all.
 fn count_others(fabric: &Fabric, traffic: Traffic, one: EndPort, sources: u64) -> u64
     requires { IsCountOf (IsSource fabric.now traffic) sources }
@@ -60,15 +81,40 @@ fn count_others(fabric: &Fabric, traffic: Traffic, one: EndPort, sources: u64) -
     }
 }
 
-/// How many end ports send to a LID to which some do, if so many do at all.
-pub fn count_senders(fabric: &Fabric, traffic: Traffic, lid: usize, sources: u64) -> u64
-    requires target { IsTargeted fabric.now traffic lid }
-    requires sources { IsCountOf (IsSource fabric.now traffic) sources }
-    ensures count { IsCountOf (Sends fabric.now traffic lid) result }
+// How many do but the owner of a LID.
+fn count_but_owner(fabric: &Fabric, traffic: Traffic, lid: usize, sources: u64) -> u64
+    requires { IsCountOf (IsSource fabric.now traffic) sources }
+    ensures count { IsCountOf (λ source. IsSource fabric.now traffic source
+        × (owner_of fabric.now lid ≢ Some source)) result }
     ensures few { result ≤ sources }
 {
     match fabric.owner(lid) {
         Some(owner) => count_others(fabric, traffic, owner, sources),
-        None => 0,
+        None => sources,
+    }
+}
+
+/// How many end ports send to a LID with this audience.
+pub fn count_senders(fabric: &Fabric, audience: Audience, lid: usize, heard: Heard) -> u64
+    requires { AreHeard fabric.now heard }
+    ensures count { IsCountOf (IsHeard fabric.now audience lid) result }
+    ensures few { result ≤ 2 ^ 17 }
+{
+    match audience {
+        Audience::Nobody => 0,
+        Audience::Hosts => count_but_owner(fabric, Traffic::Lids, lid, heard.hosts),
+        Audience::Everyone => count_but_owner(fabric, Traffic::All, lid, heard.everyone),
+    }
+}
+
+/// Of so many routes that arrive, to one LID, those to a LID that nobody owns: all, or none.
+#[inline]
+pub fn unowned_of(fabric: &Fabric, lid: usize, routes: u64) -> u64
+    ensures count { result ≡ unowned_of (owner_of fabric.now lid) routes }
+    ensures few { result ≤ routes }
+{
+    match fabric.owner(lid) {
+        Some(_) => 0,
+        None => routes,
     }
 }

@@ -1,3 +1,5 @@
 mod LineLemmas
 mod LawLemmas
 mod TwoEndLemmas
+pub mod FitLemmas
+mod ViewLemmas

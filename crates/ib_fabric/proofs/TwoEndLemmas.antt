@@ -43,11 +43,11 @@ same_to to entry other far is = (cc, cc)
 same_end : (end other : ℕ) → End end ≡ End other → end ≡ other
 same_end end other is = cc
 
-same_spot : (spot other : Spot) → Some spot ≡ Some other → spot ≡ other
+pub same_spot : (spot other : Spot) → Some spot ≡ Some other → spot ≡ other
 same_spot spot other is = cc
 
 -- a port is this one, or another
-at_or : (spot : Spot) (switch port : ℕ) → ((switch ≡ spot.switch) × (port ≡ spot.port)) ⊎ IsOther spot switch port
+pub at_or : (spot : Spot) (switch port : ℕ) → ((switch ≡ spot.switch) × (port ≡ spot.port)) ⊎ IsOther spot switch port
 at_or spot switch port = elim (cases_eq switch spot.switch) [
   | inr away ↦ inr (inl away)
   | inl same ↦ elim (cases_eq port spot.port) [
@@ -63,7 +63,7 @@ not_both spot switch port same too (inr away) = absurd (away too)
 the_spot : (spot other : Spot) → other.switch ≡ spot.switch → other.port ≡ spot.port → other ≡ spot
 the_spot spot other switch port = ap (λ (s : ℕ). let c : Spot = record { switch = s; port = other.port } in c) switch ∙ ap (λ (p : ℕ). let c : Spot = record { switch = spot.switch; port = p } in c) port
 
-at_spot : (side : ℕ → ℕ → Side) (spot : Spot) (switch port : ℕ) → switch ≡ spot.switch → port ≡ spot.port → side switch port ≡ side spot.switch spot.port
+pub at_spot : (side : ℕ → ℕ → Side) (spot : Spot) (switch port : ℕ) → switch ≡ spot.switch → port ≡ spot.port → side switch port ≡ side spot.switch spot.port
 at_spot side spot switch port same too = ap (λ (s : ℕ). side s port) same ∙ ap (λ (p : ℕ). side spot.switch p) too
 
 -- two ports are linked
@@ -271,7 +271,7 @@ module _ {Told : Type 0} (adds : Told → Fact → Told → Type 0) (Holds : Tol
   lines_keep old [] new same holds = subst (λ (s : Part × Told). Holds s.1) same holds
   lines_keep old (line ∷ lines) new (between, is, rest) holds = lines_keep between lines new rest (facts_keep old.1 between.1 is.said is.facts holds)
 
-  text_keeps : (old : Told) (bytes : List ℕ) (new : Told) → IsTextFrom adds old bytes new → Holds old → Holds new
+  pub text_keeps : (old : Told) (bytes : List ℕ) (new : Told) → IsTextFrom adds old bytes new → Holds old → Holds new
   text_keeps old bytes new is holds = lines_keep (part.Start, old) (lines_of bytes) (is.last, new) is.good holds
 
 module _ (bytes : List ℕ) (fabric : FabricOf) (is : IsFabricText bytes fabric) where

@@ -1,5 +1,6 @@
 -- What facts tell: first of nodes, and then of links between them.
-use Rattle.std.specs.Prelude.{◌≡◌, ◌≢◌, ◌≤◌, ◌⊎◌, ℕ, Option, Some, None}
+use Rattle.std.specs.Prelude.{◌≡◌, ◌≢◌, ◌==◌, ◌≤◌, ◌⊎◌, ℕ, Option, Some, None, if◌then◌else◌}
+use Rattle.std.specs.Prelude.{List, fold, option_to_list}
 use Rattle.std.specs.Option.{option_map, option_or}
 use Rattle.text_lines.specs.declared.stop.Stop.{Stop}
 use Rattle.text_lines.specs.declared.stop.Stop.TheVariants.{Fault, OutOfMemory}
@@ -17,20 +18,25 @@ use Rattle.ib_topology.specs.declared.fact.Fact.{Fact}
 use Rattle.ib_topology.specs.declared.fact.Fact.TheVariants as fact
 use Rattle.ib_topology.specs.declared.fact.PortTold.{PortTold}
 use Rattle.ib_topology.specs.declared.fact.PortTold.TheVariants.{OfSwitch, OfHost}
+use Rattle.ib_topology.specs.Unset.{put_once, unset_end}
 use Rattle.ib_fabric.specs.declared.cause.FabricCause.{FabricCause}
 use Rattle.ib_fabric.specs.declared.cause.FabricCause.TheVariants.{Text, Range, Node, Link, LidDiffers}
 use Rattle.ib_fabric.specs.declared.cause.FabricCause.TheVariants.{UnknownSwitch}
 
+-- the base LID of which a number tells: 65535 is none, as 0 is
+abbrev pub base_of : ℕ → ℕ
+base_of number = if number == 0xFFFF then 0 else number
+
 -- LIDs from a base on, and a switch
 abbrev pub range_of : ℕ → ℕ → LidRange
-range_of base lmc = record { base = base; lmc = lmc }
+range_of base lmc = record { base = base_of base; lmc = lmc }
 
 abbrev pub switch_of : ℕ → ℕ → ℕ → Switch
 switch_of ports base lmc = record { ports = ports; lids = range_of base lmc }
 
 -- numbers that can be a base LID and an LMC
 pub record AreLids (base lmc : ℕ) : Type 0 where
-  pub low : base ≤ 0xBFFF
+  pub low : base_of base ≤ 0xBFFF
   pub small : lmc ≤ 255
 
 -- a node is added, if the fact tells of one
@@ -41,6 +47,10 @@ AddsNode old (fact.Host guid base lmc) new = AreLids base lmc × AddsEnd old new
 AddsNode old (fact.Link one other) new = new ≡ old
 AddsNode old (fact.Neighbour guid base) new = new ≡ old
 AddsNode old (fact.HasSwitch guid) new = new ≡ old
+
+-- the end port of a fact is noted, if it says that its base LID is 65535
+abbrev pub AddsUnset : List ℕ → Fact → List ℕ → Type 0
+AddsUnset old said new = new ≡ fold put_once old (option_to_list (unset_end said))
 
 -- the cause is that a number is out of range, or a fault for which a node is refused
 abbrev pub IsNodeCause : Type 0 → (NodeFault → Type 0) → FabricCause → Type 0
@@ -109,7 +119,8 @@ abbrev pub AddsLink : FabricOf → Fact → FabricOf → Type 0
 AddsLink old (fact.Switch guid ports base lmc) new = new ≡ old
 AddsLink old (fact.Host guid base lmc) new = new ≡ old
 AddsLink old (fact.Link one other) new = Joins old one other new
-AddsLink old (fact.Neighbour guid base) new = IsLidOf old (node_with old guid) base × (new ≡ old)
+AddsLink old (fact.Neighbour guid base) new =
+    IsLidOf old (node_with old guid) (base_of base) × (new ≡ old)
 AddsLink old (fact.HasSwitch guid) new = (switch_with old guid ≢ None) × (new ≡ old)
 
 -- two ports cannot be linked, or not cabled, by this fault
@@ -149,5 +160,5 @@ IsFaultyLink old (fact.Switch guid ports base lmc) cause = ⊥
 IsFaultyLink old (fact.Host guid base lmc) cause = ⊥
 IsFaultyLink old (fact.Link one other) cause = IsLinkCause (CannotJoin old one other) cause
 IsFaultyLink old (fact.Neighbour guid base) cause =
-    (cause ≡ LidDiffers) × (¬ IsLidOf old (node_with old guid) base)
+    (cause ≡ LidDiffers) × (¬ IsLidOf old (node_with old guid) (base_of base))
 IsFaultyLink old (fact.HasSwitch guid) cause = (cause ≡ UnknownSwitch) × (switch_with old guid ≡ None)

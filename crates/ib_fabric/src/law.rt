@@ -3,7 +3,7 @@
 ghost use Rattle.std.specs.Prelude.{◌≡◌, ◌↔◌, ℕ, List, Some};
 ghost use Rattle.ib_net.specs.declared.node.Side.TheVariants.{End, To};
 ghost use Rattle.ib_net.specs.declared.node.Spot.{Spot};
-ghost use Rattle.ib_net.specs.Fabric.{FabricOf, cable_of, side_of};
+ghost use Rattle.ib_net.specs.Fabric.{FabricOf, IsFabric, cable_of, side_of};
 ghost use Rattle.ib_fabric.specs.declared.cause.FabricCause.{FabricCause};
 ghost use Rattle.ib_fabric.specs.Fabrics.{IsFabricText, IsFault};
 
@@ -23,6 +23,11 @@ pub fn no_fault_in_text()
 pub fn one_fault()
     ensures { (bytes : List ℕ) (line other : ℕ) (cause second : FabricCause) → IsFault bytes line cause →
         IsFault bytes other second → (line ≡ other) × (cause ≡ second) }
+{}
+
+/// What a text is of is a fabric: its parts fit together. So all that is proved of a fabric holds of that of a text.
+pub fn a_text_is_of_a_fabric()
+    ensures { (bytes : List ℕ) (fabric : FabricOf) → IsFabricText bytes fabric → IsFabric fabric }
 {}
 
 /// Each link has two ends: in the fabric of a text a port leads to another one exactly if that one leads to it, and to

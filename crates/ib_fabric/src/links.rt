@@ -5,6 +5,7 @@ ghost use Rattle.ib_net.specs.Fabric.{IsPort, end_with, switch_count, switch_wit
 ghost use Rattle.ib_fabric.specs.Facts.{CablesPort, CannotJoin, IsLidOf, IsNoCable, IsNoLink, Joins};
 ghost use Rattle.ib_fabric.specs.Facts.{LinksPorts, node_with, spot_of};
 
+use crate::base::base_of;
 use crate::cause::FabricCause;
 use crate::lines::Takes;
 use ib_net::fabric::Fabric;
@@ -26,7 +27,7 @@ impl Takes for Fabric {
                 Err(fault) => Err(Stop::Fault(FabricCause::Link(fault))),
             },
             Fact::Neighbour { guid, base } => {
-                if is_lid_of(self, guid, base) {
+                if is_lid_of(self, guid, base_of(base)) {
                     Ok(())
                 } else {
                     Err(Stop::Fault(FabricCause::LidDiffers))
@@ -123,7 +124,7 @@ fn spot_at(fabric: &Fabric, switch: u32, port: u64) -> Result<Spot, LinkFault>
     })
 }
 
-// Whether a LID that a neighbour tells of a node is one of the node's, if the node was told of.
+// Whether a base LID that a neighbour tells of a node, or 0, is one of the node's, if the node was told of.
 fn is_lid_of(fabric: &Fabric, guid: u64, base: u64) -> bool
     ensures { IsTrue result ↔ IsLidOf fabric.now (node_with fabric.now guid) base }
 {

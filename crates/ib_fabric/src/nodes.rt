@@ -1,37 +1,78 @@
 //! The nodes among facts.
 
-ghost use Rattle.std.specs.Prelude.{◌≡◌, ◌≤◌, IfErr, IfOk};
+ghost use Rattle.std.specs.Prelude.{◌≡◌, ◌≤◌, [], IfErr, IfOk};
 ghost use Rattle.text_lines.specs.Stops.{IsStep};
 ghost use Rattle.ib_net.specs.Nodes.{AddsEnd, AddsSwitch, IsRefusedEnd, IsRefusedSwitch};
-ghost use Rattle.ib_fabric.specs.Facts.{AreLids, IsNodeCause, node_stop, range_of, switch_of};
+ghost use Rattle.ib_fabric.specs.Facts.{AddsNode, AreLids, IsFaultyNode, IsNodeCause, node_stop};
+ghost use Rattle.ib_fabric.specs.Facts.{range_of, switch_of};
+ghost use Rattle.ib_fabric.specs.Fabrics.{no_nodes};
 
+use crate::base::{base_of, unset_end};
 use crate::cause::FabricCause;
 use crate::lines::Takes;
+use an_base::memory::OutOfMemory;
 use ib_net::node::{LidRange, NodeFault, Switch};
 use ib_net::nodes::Nodes;
 use ib_topology::fact::Fact;
+use indexmap::IndexSet;
+use std::alloc::Global;
 use text_lines::stop::Stop;
 
-impl Takes for Nodes {
-    ghost use Rattle.ib_fabric.specs.Facts.{AddsNode, IsFaultyNode};
+/// The nodes of which facts tell.
+#[derive(Drop)]
+pub struct ToldNodes {
+    /// The nodes.
+    pub nodes: Nodes,
+    /// The GUIDs of those that say that their base LID is 65535.
+    pub unset: IndexSet<u64>,
+}
 
-    ghost adds = { AddsNode };
+impl ToldNodes {
+    /// No nodes.
+    pub fn new(alloc: Global) -> Result<ToldNodes, OutOfMemory>
+        ensures nodes { IfOk result (λ told. told.nodes ≡ no_nodes) }
+        ensures unset { IfOk result (λ told. told.unset.keys ≡ []) }
+    {
+        Ok(ToldNodes {
+            nodes: Nodes::new(alloc)?,
+            unset: IndexSet::new(alloc),
+        })
+    }
+}
 
-    ghost is_faulty = { IsFaultyNode };
+impl Takes for ToldNodes {
+    ghost use Rattle.ib_fabric.specs.Facts.{AddsUnset, AddsNode, IsFaultyNode};
+
+    ghost adds = { λ old fact new. AddsNode old.nodes fact new.nodes × AddsUnset old.unset.keys fact new.unset.keys };
+
+    ghost is_faulty = { λ old. IsFaultyNode old.nodes };
 
     fn take(&mut self, fact: Fact) -> Result<(), Stop<FabricCause>> {
-        match fact {
-            Fact::Switch {
-                guid,
-                ports,
-                base,
-                lmc,
-            } => take_switch(self, guid, ports, base, lmc),
-            Fact::Host { guid, base, lmc } => take_end(self, guid, base, lmc),
-            Fact::Link { one: _, other: _ } => Ok(()),
-            Fact::Neighbour { guid: _, base: _ } => Ok(()),
-            Fact::HasSwitch { guid: _ } => Ok(()),
+        take_node(&mut self.nodes, fact)?;
+        if let Some(guid) = unset_end(fact) {
+            let Ok(_) = self.unset.insert(guid) else {
+                return Err(Stop::OutOfMemory);
+            };
         }
+        Ok(())
+    }
+}
+
+// Adds the node of a fact, if it tells of one.
+fn take_node(nodes: &mut Nodes, fact: Fact) -> Result<(), Stop<FabricCause>>
+    ensures { IsStep result (AddsNode nodes.old fact nodes.new) (IsFaultyNode nodes.old fact) }
+{
+    match fact {
+        Fact::Switch {
+            guid,
+            ports,
+            base,
+            lmc,
+        } => take_switch(nodes, guid, ports, base, lmc),
+        Fact::Host { guid, base, lmc } => take_end(nodes, guid, base, lmc),
+        Fact::Link { one: _, other: _ } => Ok(()),
+        Fact::Neighbour { guid: _, base: _ } => Ok(()),
+        Fact::HasSwitch { guid: _ } => Ok(()),
     }
 }
 
@@ -89,11 +130,12 @@ fn byte(number: u64) -> Result<u8, Stop<FabricCause>>
     Ok(number as u8)
 }
 
-// The LIDs from a base on.
+// The LIDs from a base on, if it is one.
 fn lids(base: u64, lmc: u64) -> Result<LidRange, Stop<FabricCause>>
     ensures ok { IfOk result (λ lids. (lids ≡ range_of base lmc) × AreLids base lmc) }
     ensures err { IfErr result (λ stop. (stop ≡ Stop.Fault FabricCause.Range) × (¬ AreLids base lmc)) }
 {
+    let base = base_of(base);
     if base > 0xBFFF {
         return Err(Stop::Fault(FabricCause::Range));
     }

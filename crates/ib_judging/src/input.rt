@@ -1,6 +1,6 @@
 //! What the words of a call name.
 
-use crate::words::is_standard;
+use crate::said::is_standard;
 use an_base::text::Word;
 use std::fs::{self, Files};
 use std::io::{self, ErrorKind, Read};
@@ -25,7 +25,7 @@ impl<'a, R: Files, S: Drop> Input<'a, R, S> {
     pub fn named(files: &'a R, standard: S, name: Option<&'a Word>) -> Self {
         match name {
             None => Input::Nothing,
-            Some(name) if is_standard(name) => Input::Standard(standard),
+            Some(name) if is_standard(name.as_bytes()) => Input::Standard(standard),
             Some(name) => Input::Named { files, name },
         }
     }

@@ -1,10 +1,11 @@
 //! The words of a call of `fabric`.
 
-ghost use Rattle.std.specs.Prelude.{◌≡◌, ◌≢◌, ◌↔◌, MatchOption, IsTrue, codes};
-ghost use Rattle.ib_routes.specs.declared.traffic.Traffic.{Traffic};
-ghost use Rattle.ib_commands.specs.Words.{traffic_word};
-ghost use Rattle.ib_judging.specs.Words.{AreNoCall, FitsCount, IsCall, MayBeFiles, NameTraffic, NameTrafficFor, file_count, task_word};
+ghost use Rattle.std.specs.Prelude.{◌≡◌, ◌≢◌, ◌<◌, ◌↔◌, IfSome, IsTrue, MatchOption, Some, codes, slice_get, slice_index};
+ghost use Rattle.ib_judging.specs.Words.{AreNoCall, FitsCount, IsCall, file_count, has_no_levels, is_ended, is_level, may_say};
+ghost use Rattle.ib_judging.specs.Words.{settled, task_word, traffic_at, traffic_for};
+ghost use Rattle.ib_judging.specs.declared.words.Call.{Call};
 
+use crate::said::{MOST_FILES, Part, Said, said_by, traffic_named};
 use an_base::text::Word;
 use ib_routes::traffic::Traffic;
 
@@ -47,6 +48,12 @@ pub struct Call {
     pub task: Task,
     /// .. for the routes of this traffic.
     pub traffic: Traffic,
+    /// Whether a reply has the service level of its request.
+    pub replies: bool,
+    /// The service level of a pair that has none, if one is given.
+    pub silent: Option<u8>,
+    /// At which places among the words the files stand, as many as the task has.
+    pub files: [usize; MOST_FILES],
 }
 
 // Whether a word is this text.
@@ -56,53 +63,7 @@ fn is(word: &Word, text: &str) -> bool
     word.as_bytes() == text.as_bytes()
 }
 
-/// Whether a word names standard input: it is `-`.
-pub fn is_standard(word: &Word) -> bool
-    ensures { IsTrue result ↔ (word.now ≡ codes "-") }
-{
-    is(word, "-")
-}
-
-// The traffic that a word names.
-fn traffic_named(word: &Word) -> Option<Traffic>
-    ensures { MatchOption result ((traffic : Traffic) → word.now ≢ traffic_word traffic)
-        (λ traffic. word.now ≡ traffic_word traffic) }
-{
-    if is(word, "hosts") {
-        return Some(Traffic::Hosts);
-    }
-    if is(word, "lids") {
-        return Some(Traffic::Lids);
-    }
-    if is(word, "all") {
-        return Some(Traffic::All);
-    }
-    None
-}
-
-// The traffic that the words after the files name.
-fn traffic_of(words: &[Word]) -> Option<Traffic>
-    ensures { MatchOption result ((traffic : Traffic) → ¬ NameTraffic words.now traffic) (NameTraffic words.now) }
-{
-    match words {
-        [] => Some(Traffic::Hosts),
-        [word] => traffic_named(word),
-        _ => None,
-    }
-}
-
-// .. of a task: `between` has none, and takes no such word.
-fn traffic_for(task: Task, words: &[Word]) -> Option<Traffic>
-    ensures { MatchOption result ((traffic : Traffic) → ¬ NameTrafficFor task words.now traffic)
-        (NameTrafficFor task words.now) }
-{
-    match task {
-        Task::Between => words.is_empty().then_some(Traffic::Hosts),
-        _ => traffic_of(words),
-    }
-}
-
-// The task of `dot` with so many words after it: with four files the tables have lanes.
+// The task of `dot` with so many words that are no options: with four files the tables have lanes.
 fn task_of_dot(count: usize) -> Task
     ensures word { task_word result ≡ codes "dot" }
     ensures fits { FitsCount result count }
@@ -114,7 +75,7 @@ fn task_of_dot(count: usize) -> Task
     }
 }
 
-// The task that a word names with so many words after it.
+// The task that a word names with so many words that are no options.
 fn task_named(word: &Word, count: usize) -> Option<Task>
     ensures { MatchOption result ((task : Task) → word.now ≢ task_word task)
         (λ task. (word.now ≡ task_word task) × FitsCount task count) }
@@ -149,8 +110,8 @@ fn task_named(word: &Word, count: usize) -> Option<Task>
     None
 }
 
-// How many files a task has.
-fn file_count(task: Task) -> usize
+/// How many files a task has.
+pub fn file_count(task: Task) -> usize
     ensures { result ≡ file_count task }
 {
     match task {
@@ -167,20 +128,91 @@ fn file_count(task: Task) -> usize
     }
 }
 
-// Whether at most one of the files is standard input.
-fn may_be_files(files: &[Word]) -> bool
-    ensures { IsTrue result ↔ MayBeFiles files.now }
+// The traffic that the word at a place names.
+fn traffic_at(words: &[Word], place: usize) -> Option<Traffic>
+    ensures { result ≡ traffic_at words.now place }
 {
-    let mut standard = 0usize;
-    'files: for file in files {
-        if is_standard(file) {
-            standard += 1;
-        }
+    match words.get(place) {
+        Some(word) => traffic_named(word.as_bytes()),
+        None => None,
     }
-    standard <= 1
 }
 
-/// The call that words are, if they are one. At most one file is `-`.
+// The traffic of a call with so many files.
+fn traffic_for(words: &[Word], files: usize, said: Said) -> Option<Traffic>
+    requires { files < 5 }
+    ensures { result ≡ traffic_for words.now files said }
+{
+    if said.count == files {
+        return Some(said.traffic.unwrap_or(Traffic::Hosts));
+    }
+    if said.count == files + 1 && !said.late && said.traffic.is_none() {
+        return traffic_at(words, said.files[files]);
+    }
+    None
+}
+
+// Whether no option of service levels was said.
+fn has_no_levels(said: Said) -> bool
+    ensures { result ≡ has_no_levels said }
+{
+    said.replies.is_none() && said.silent.is_none()
+}
+
+// Whether a task has the options that were said.
+fn may_say(task: Task, said: Said) -> bool
+    ensures { result ≡ may_say task said }
+{
+    match task {
+        Task::Lanes => true,
+        Task::LanesDot => true,
+        Task::Between => has_no_levels(said) && said.traffic.is_none() && said.count == 3,
+        _ => has_no_levels(said),
+    }
+}
+
+// Whether a service level is one of 0 to 15, if there is one.
+fn is_level(silent: Option<u8>) -> bool
+    ensures test { result ≡ is_level silent }
+    ensures low { IsTrue result → IfSome silent (λ level. level < 16) }
+{
+    match silent {
+        None => true,
+        Some(level) => level < 16,
+    }
+}
+
+// Whether no option lacks its value.
+fn is_ended(part: Part) -> bool
+    ensures { result ≡ is_ended part }
+{
+    match part {
+        Part::Any => true,
+        Part::Files => true,
+        Part::Of(_) => false,
+    }
+}
+
+// The call of a task by what is said, if it is one.
+fn settled(words: &[Word], task: Task, said: Said) -> Option<Call>
+    ensures call { result ≡ settled words.now task said }
+    ensures low { IfSome result (λ call. IfSome call.silent (λ level. level < 16)) }
+{
+    if !is_ended(said.part) || !may_say(task, said) || !is_level(said.silent) {
+        return None;
+    }
+    let traffic = traffic_for(words, file_count(task), said)?;
+    let files = said.files;
+    Some(Call {
+        task,
+        traffic,
+        replies: said.replies.unwrap_or(true),
+        silent: said.silent,
+        files,
+    })
+}
+
+/// The call that words are, if they are one. At most one file is `-`, standard input.
 ///
 /// - `judge`, `ranks`, `dot`, `repair` or `repaired` with TOPOLOGY and TABLES;
 /// - `verify` with TOPOLOGY, TABLES and RANKS;
@@ -188,22 +220,34 @@ fn may_be_files(files: &[Word]) -> bool
 /// - `lanes` or `dot` with TOPOLOGY, TABLES, SL2VL and LEVELS;
 /// - `between` with TOPOLOGY, OLD and NEW.
 ///
-/// But for `between`, `hosts`, `lids` or `all` may follow. Without such a word the traffic is `hosts`.
+/// Options may stand anywhere after the first word, each at most once, but not after `--`: then all words are files. But
+/// for `between` there is `-t TRAFFIC`, or `--traffic TRAFFIC`, of `hosts`, `lids`, `managed`, `all` and `rows`, for which
+/// TRAFFIC alone may stand after the files. Without it the traffic is `hosts`. With four files there are `--replies yes`
+/// or `no`, and `--silent LEVEL`, 0 to 15. The value of a long option may also follow a `=`. Another word that begins with
+/// `-`, but for `-` itself, is no file.
 pub fn call_of(words: &[Word]) -> Option<Call>
-    ensures { MatchOption result (AreNoCall words.now) (IsCall words.now) }
+    ensures call { MatchOption result (AreNoCall words.now) (IsCall words.now) }
+    ensures low { IfSome result (λ call. IfSome call.silent (λ level. level < 16)) }
 {
-    let [first, rest @ ..] = words else {
+    let [first, ..] = words else {
         return None;
     };
-    let task = task_named(first, rest.len())?;
-    let count = file_count(task);
-    if rest.len() < count {
+    let said = said_by(words)?;
+    let task = task_named(first, said.count)?;
+    settled(words, task, said)
+}
+
+/// The word of a file of a call, the first one as 0; none if there is no such file, or the words are no call.
+pub fn file_of(words: &[Word], file: usize) -> Option<&Word>
+    ensures { IfSome result (λ word. (call : Call) → IsCall words.now call → file < file_count call.task
+        × (slice_get words.now (slice_index call.files file) ≡ Some word.now)) }
+{
+    let call = call_of(words)?;
+    if file >= file_count(call.task) {
         return None;
     }
-    let (files, last) = rest.split_at(count);
-    if !may_be_files(files) {
-        return None;
+    match words.get(call.files[file]) {
+        Some(word) => Some(word),
+        None => None,
     }
-    let traffic = traffic_for(task, last)?;
-    Some(Call { task, traffic })
 }

@@ -1,1 +1,3 @@
 mod LaneEndLemmas
+mod LevelLemmas
+mod SilenceLemmas

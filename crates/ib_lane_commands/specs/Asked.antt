@@ -1,15 +1,17 @@
 -- With which service levels end ports send, as a call asks.
 
-use Rattle.std.specs.Prelude.{◌≡◌, ◌≢◌, ◌<◌, ◌^◌, ℕ, List, true, false, codes}
+use Rattle.std.specs.Prelude.{◌≡◌, ◌≢◌, ◌<◌, ◌^◌, ℕ, List, IfSome, true, false, codes}
 use Rattle.outside.specs.Told.{Seen}
 use Rattle.text_lines.specs.Words.{is_number_in, number_value}
 use Rattle.ib_net.specs.Fabric.{FabricOf}
 use Rattle.ib_rows.specs.declared.levels.LevelRows.{LevelRows}
+use Rattle.ib_rows.specs.InUse.{AreLevelsInUse}
 use Rattle.ib_rows.specs.PathLevels.{LevelsOf, told_levels}
 use Rattle.ib_words.specs.declared.lane_cause.LaneCause.{LaneCause}
 use Rattle.ib_reader.specs.declared.reader.TextRefusal.{TextRefusal}
 use Rattle.ib_reader.specs.declared.reader.TextRefusal.TheVariants as refusal
 use Rattle.ib_levels.specs.Reads.{GaveLevels, IsRefusedBy}
+use Rattle.ib_lane_lines.specs.declared.answer.Asked.{Asked}
 use Rattle.ib_lane_lines.specs.declared.answer.LevelsAsked.{LevelsAsked}
 use Rattle.ib_lane_lines.specs.declared.answer.LevelsAsked.TheVariants.{File, Same, Any}
 use Rattle.ib_lane_verdict.specs.LaneVerdict.{any_level}
@@ -43,6 +45,18 @@ abbrev pub GaveLevelsFor : FabricOf → LevelsAsked → (old new : Seen) → Lev
 GaveLevelsFor fabric File old new levels = AreGiven fabric old new levels
 GaveLevelsFor fabric (Same level) old new levels = (new ≡ old) × (levels ≡ one_level level)
 GaveLevelsFor fabric Any old new levels = (new ≡ old) × (levels ≡ any_level)
+
+-- .. and by them the levels in use: those of replies too, if they count, and the one of pairs that have none, if one is
+-- given
+pub record AreLevelsFor (fabric : FabricOf) (asked : Asked) (old new : Seen) (used : LevelsOf) : Type 0 where
+  pub told : LevelsOf
+  pub gave : GaveLevelsFor fabric asked.levels old new told
+  pub uses : AreLevelsInUse fabric asked.replies asked.silent told used
+
+-- the levels of a call are of 0 to 15
+pub record HasLowLevels (asked : Asked) : Type 0 where
+  pub levels : IsOneOfSixteen asked.levels
+  pub silent : IfSome asked.silent (λ level. level < 16)
 
 -- the status of levels that are refused
 abbrev pub levels_refused : TextRefusal LaneCause → Status

@@ -12,13 +12,13 @@ use Rattle.ib_words.specs.declared.lane_cause.LaneCause.{LaneCause}
 use Rattle.ib_reader.specs.declared.reader.TextRefusal.{TextRefusal}
 use Rattle.ib_reader.specs.declared.reader.TextRefusal.TheVariants as refusal
 use Rattle.ib_sl2vl.specs.Reads.{GaveLanes, HasRows, IsRefusedBy}
-use Rattle.ib_lane_lines.specs.declared.answer.LevelsAsked.{LevelsAsked}
+use Rattle.ib_lane_lines.specs.declared.answer.Asked.{Asked}
 use Rattle.ib_answering.specs.declared.status.Status.{Status}
 use Rattle.ib_answering.specs.declared.status.Status.TheVariants.{LanesRefused, ReadFault, OutOfMemory}
 use Rattle.ib_answering.specs.Answer.{GaveFabric, Sources, sources}
 use Rattle.ib_answering.specs.Answer.{IsStop as IsFabricStop}
 use Rattle.ib_lane_commands.specs.declared.input.Input.{Input}
-use Rattle.ib_lane_commands.specs.Asked.{AreLevelsRefused, GaveLevelsFor}
+use Rattle.ib_lane_commands.specs.Asked.{AreLevelsFor, AreLevelsRefused}
 
 -- the sources of a call at one moment: those of the fabric, the topology and its tables, and two more
 pub record LaneSources : Type 0 where
@@ -30,7 +30,7 @@ abbrev pub lane_sources : (topology tables lanes levels : Seen) → LaneSources
 lane_sources topology tables lanes levels =
     record { fabric = sources topology tables; lanes = lanes; levels = levels }
 
--- what they tell: the text of the topology, its fabric, the tables and the lanes of it, and the levels of end ports
+-- what they tell: the text of the topology, its fabric, the tables and the lanes of it, and the levels in use
 pub record Told : Type 0 where
   pub text : List ℕ
   pub fabric : FabricOf
@@ -54,10 +54,10 @@ pub record AreTablesRead (old new : Sources) (text : List ℕ) (fabric : FabricO
   pub tables : GaveTables fabric old.tables new.tables found
 
 -- all sources were read to their ends, that of levels if they were asked for, and tell this
-pub record AreRead (asked : LevelsAsked) (old new : LaneSources) (told : Told) : Type 0 where
+pub record AreRead (asked : Asked) (old new : LaneSources) (told : Told) : Type 0 where
   pub tables : AreTablesRead old.fabric new.fabric told.text told.fabric told.found
   pub lanes : GaveLanes told.fabric old.lanes new.lanes told.lanes
-  pub levels : GaveLevelsFor told.fabric asked old.levels new.levels told.levels
+  pub levels : AreLevelsFor told.fabric asked old.levels new.levels told.levels
 
 -- there is a cell for each switch and each LID that has an owner, and a row of lanes for each switch
 pub record HasPlaces (input : Input) : Type 0 where
@@ -85,18 +85,18 @@ pub record AreNoLanes (old new : LaneSources) (status : Status) : Type 0 where
   pub refused : AreLanesRefused fabric old.lanes new.lanes status
 
 -- the lanes were read too, and the levels are refused
-pub record AreNoLevels (asked : LevelsAsked) (old new : LaneSources) (status : Status) : Type 0 where
+pub record AreNoLevels (asked : Asked) (old new : LaneSources) (status : Status) : Type 0 where
   pub text : List ℕ
   pub fabric : FabricOf
   pub found : Tables
   pub tables : AreTablesRead old.fabric new.fabric text fabric found
   pub rows : LaneRows
   pub lanes : GaveLanes fabric old.lanes new.lanes rows
-  pub refused : AreLevelsRefused fabric asked old.levels new.levels status
+  pub refused : AreLevelsRefused fabric asked.levels old.levels new.levels status
 
 -- Why nothing is judged. There are no tables of a fabric, and the other sources were not looked at; there are no lanes,
 -- and the levels were not looked at; there are no levels; or memory is wanting.
-pub data IsStop (asked : LevelsAsked) (old new : LaneSources) (status : Status) : Type 0 where
+pub data IsStop (asked : Asked) (old new : LaneSources) (status : Status) : Type 0 where
   no_tables :
       IsFabricStop old.fabric new.fabric status → new.lanes ≡ old.lanes → new.levels ≡ old.levels
       → IsStop asked old new status

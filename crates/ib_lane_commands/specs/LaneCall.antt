@@ -3,7 +3,7 @@
 use Rattle.std.specs.Prelude.{◌≡◌, ℕ, List}
 use Rattle.outside.specs.Told.{Seen}
 use Rattle.ib_routes.specs.declared.traffic.Traffic.{Traffic}
-use Rattle.ib_lane_lines.specs.declared.answer.LevelsAsked.{LevelsAsked}
+use Rattle.ib_lane_lines.specs.declared.answer.Asked.{Asked}
 use Rattle.ib_answering.specs.declared.status.Status.{Status}
 use Rattle.ib_answering.specs.Answer.{IsAnswerBy}
 use Rattle.ib_lane_commands.specs.Inputs.{AreRead, IsStop, LaneSources, Told}
@@ -15,7 +15,7 @@ abbrev pub LaneGives : Type 1
 LaneGives = Told → Status → List ℕ → Type 0
 
 -- the sources were read to their ends, and this is given for what they tell
-pub record IsGiven (gives : LaneGives) (asked : LevelsAsked) (old new : LaneSources) (status : Status)
+pub record IsGiven (gives : LaneGives) (asked : Asked) (old new : LaneSources) (status : Status)
     (written : List ℕ)
     : Type 0 where
   pub told : Told
@@ -24,16 +24,16 @@ pub record IsGiven (gives : LaneGives) (asked : LevelsAsked) (old new : LaneSour
 
 -- the answer of a command
 abbrev pub IsLaneAnswer :
-    LaneGives → LevelsAsked → (old new : LaneSources) (out out' err err' : Seen) (answer : ℕ) → Type 0
+    LaneGives → Asked → (old new : LaneSources) (out out' err err' : Seen) (answer : ℕ) → Type 0
 IsLaneAnswer gives asked old new = IsAnswerBy (IsGiven gives asked old new) (IsStop asked old new)
 
 -- that of `lanes`, which gives the verdict, and that of `dot`, which gives a picture
 abbrev pub IsLanesAnswer :
-    Traffic → LevelsAsked → (old new : LaneSources) (out out' err err' : Seen) (answer : ℕ) → Type 0
+    Traffic → Asked → (old new : LaneSources) (out out' err err' : Seen) (answer : ℕ) → Type 0
 IsLanesAnswer traffic asked old new out out' err err' answer =
     IsLaneAnswer (IsLaneJudged traffic asked) asked old new out out' err err' answer
 
 abbrev pub IsLanesDrawn :
-    Traffic → LevelsAsked → (old new : LaneSources) (out out' err err' : Seen) (answer : ℕ) → Type 0
+    Traffic → Asked → (old new : LaneSources) (out out' err err' : Seen) (answer : ℕ) → Type 0
 IsLanesDrawn traffic asked old new out out' err err' answer =
     IsLaneAnswer (IsLaneDrawn traffic asked) asked old new out out' err err' answer

@@ -9,7 +9,7 @@ use Rattle.ib_routes.specs.declared.traffic.Traffic.{Traffic}
 use Rattle.ib_rows.specs.Lanes.{IsLaneCount, lanes_of}
 use Rattle.ib_lines.specs.declared.picture.Arrow.{Arrow}
 use Rattle.ib_lane_verdict.specs.declared.verdict.LaneLoopChannel.{LaneLoopChannel}
-use Rattle.ib_lane_lines.specs.declared.answer.LevelsAsked.{LevelsAsked}
+use Rattle.ib_lane_lines.specs.declared.answer.Asked.{Asked}
 use Rattle.ib_lane_lines.specs.declared.picture.LaneArrow.{LaneArrow}
 use Rattle.ib_lane_lines.specs.declared.picture.LanePicture.{LanePicture}
 use Rattle.ib_lane_lines.specs.LanePictures.{lane_picture_text}
@@ -36,17 +36,17 @@ abbrev pub lane_switches_of : List LaneArrow → List ℕ
 lane_switches_of arrows = insert_all nat_eq [] (map (λ one. one.arrow.step.guid) arrows)
 
 -- a picture of the channels of a loop, with the names of their switches, and of what was judged
-pub record IsLanePictureOf (traffic : Traffic) (asked : LevelsAsked) (told : Told) (loop : List LaneLoopChannel)
+pub record IsLanePictureOf (traffic : Traffic) (asked : Asked) (told : Told) (loop : List LaneLoopChannel)
     (picture : LanePicture)
     : Type 0 where
   pub traffic_is : picture.traffic.now ≡ traffic_word traffic
   pub lanes : IsLaneCount (lanes_of told.lanes) picture.lanes
-  pub levels : picture.levels ≡ asked
+  pub asked_is : picture.asked ≡ asked
   pub arrows : picture.arrows.items ≡ lane_arrows_of told.fabric loop
   pub names : picture.names.items ≡ names_for told.text (lane_switches_of picture.arrows.items)
 
 -- the picture of the least credit loop, or of none if there is none
-pub record IsLaneDrawn (traffic : Traffic) (asked : LevelsAsked) (told : Told) (status : Status) (written : List ℕ)
+pub record IsLaneDrawn (traffic : Traffic) (asked : Asked) (told : Told) (status : Status) (written : List ℕ)
     : Type 0 where
   pub loop : List LaneLoopChannel
   pub is_loop :

@@ -1,12 +1,13 @@
 -- What `lanes` gives for what was read.
 
-use Rattle.std.specs.Prelude.{◌≡◌, ℕ, List, [], ◌∷◌, ◌++◌, map, nat_eq}
+use Rattle.std.specs.Prelude.{◌≡◌, ℕ, List, [], ◌∷◌, ◌++◌, Option, Some, None, map, nat_eq}
 use Rattle.std.specs.List.{flat_map}
 use Rattle.std.specs.Option.{option_map, option_to_list}
 use Rattle.indexmap.specs.IndexSet.{insert_all}
 use Rattle.channel_graph.specs.Cycles.{HasNoCycle, IsCycle}
 use Rattle.ib_net.specs.declared.node.EndPort.TheVariants.{Switch}
 use Rattle.ib_net.specs.Fabric.{FabricOf, guid_of}
+use Rattle.ib_topology.specs.Unset.{unset_of}
 use Rattle.ib_cells.specs.Cells.{TablesOf, tables_of}
 use Rattle.ib_routes.specs.declared.traffic.Traffic.{Traffic}
 use Rattle.ib_rows.specs.Lanes.{IsLaneCount, LanesOf, lanes_of}
@@ -26,23 +27,31 @@ use Rattle.ib_lane_counts.specs.LaneCounts.{AreLaneCounts, lane_sum_of}
 use Rattle.ib_lane_lines.specs.declared.answer.LaneLosses.{LaneLosses}
 use Rattle.ib_lane_lines.specs.declared.answer.LaneLost.{LaneLost}
 use Rattle.ib_lane_lines.specs.declared.answer.LaneStep.{LaneStep}
-use Rattle.ib_lane_lines.specs.declared.answer.LevelsAsked.{LevelsAsked}
+use Rattle.ib_lane_lines.specs.declared.answer.Asked.{Asked}
+use Rattle.ib_lane_lines.specs.declared.answer.Mute.{Mute}
 use Rattle.ib_lane_lines.specs.declared.answer.LossCause.{LossCause}
 use Rattle.ib_lane_lines.specs.declared.answer.LossCause.TheVariants.{Missing, Dead, Wrong, Discard, Loop}
 use Rattle.ib_lane_lines.specs.LaneAnswers.{lane_answer_text}
 use Rattle.ib_lines.specs.declared.answer.Routes.{Routes}
 use Rattle.ib_answering.specs.declared.status.Status.{Status}
-use Rattle.ib_answering.specs.declared.status.Status.TheVariants.{Ok, RoutesLost, Cycle}
-use Rattle.ib_commands.specs.Judged.{IsRead, step_of}
+use Rattle.ib_answering.specs.declared.status.Status.TheVariants.{Ok, Undecided, RoutesLost, Cycle}
+use Rattle.ib_commands.specs.Judged.{IsRead, step_of, unowned_told}
 use Rattle.ib_commands.specs.Names.{names_for}
 use Rattle.ib_commands.specs.Words.{traffic_word}
 use Rattle.ib_lane_commands.specs.Inputs.{Told}
+use Rattle.ib_lane_commands.specs.Silence.{IsMute, NoneIsSilent, SomeIsSilent}
 
 module _ (fabric : FabricOf) (tables : TablesOf) (lanes : LanesOf) (traffic : Traffic) (levels : LevelsOf) where
-  -- What the statuses 0, 7 and 8 mean, on so many lanes: there is no credit loop, as ranks of the channels show, and each
-  -- route of the traffic arrives; there is none, but a route stops or is discarded; there is one.
+  -- What the statuses 0, 6, 7 and 8 mean, on so many lanes: there is no credit loop, as ranks of the channels show, each
+  -- route of the traffic arrives, and none lacks its level; the same, but some lack it; there is none, but a route stops
+  -- or is discarded; there is one.
   abbrev pub IsLaneEndOf : ℕ → Status → Type 0
-  IsLaneEndOf count Ok = (ranks : List ℕ) × LanePasses fabric tables lanes traffic levels count ranks
+  IsLaneEndOf count Ok =
+      (ranks : List ℕ) × LanePasses fabric tables lanes traffic levels count ranks
+      × NoneIsSilent fabric tables traffic levels
+  IsLaneEndOf count Undecided =
+      (ranks : List ℕ) × LanePasses fabric tables lanes traffic levels count ranks
+      × SomeIsSilent fabric tables traffic levels
   IsLaneEndOf count RoutesLost =
       (ranks : List ℕ) × LaneHasRanks fabric tables lanes traffic levels count ranks
       × SomeIsLaneStopped fabric tables lanes traffic levels
@@ -69,14 +78,24 @@ abbrev pub lane_step_of : FabricOf → LaneLoopChannel → LaneStep
 lane_step_of fabric one =
     record { step = step_of fabric (without_lane one); lane = one.channel.lane; level = one.witness.level }
 
--- the GUIDs in steps of a cycle and in lost routes, each once, at its first place
-abbrev pub lane_mentioned : List LaneStep → List LaneLost → List ℕ
-lane_mentioned cycle lost =
-    insert_all nat_eq [] (flat_map (λ one. one.step.guid ∷ one.step.source ∷ []) cycle
+-- the GUIDs in a silent pair, in steps of a cycle and in lost routes, each once, at its first place
+abbrev pub mute_guids : Option Mute → List ℕ
+mute_guids None = []
+mute_guids (Some mute) = mute.source ∷ []
+
+abbrev pub lane_mentioned : Option Mute → List LaneStep → List LaneLost → List ℕ
+lane_mentioned mute cycle lost =
+    insert_all nat_eq (mute_guids mute) (flat_map (λ one. one.step.guid ∷ one.step.source ∷ []) cycle
     ++ flat_map (λ route. route.source ∷ route.at ∷ []) lost)
 
-abbrev pub lane_routes_of : LaneCounts → Routes
-lane_routes_of counts = record { routes = counts.routes; arrived = counts.arrived; hops = counts.hops }
+abbrev pub lane_routes_of : Traffic → LaneCounts → Routes
+lane_routes_of traffic counts =
+    record {
+      routes = counts.routes;
+      arrived = counts.arrived;
+      hops = counts.hops;
+      unowned = unowned_told traffic counts.unowned;
+    }
 
 -- how many routes are lost, by cause
 abbrev pub lane_losses_of : Counted → LaneLosses
@@ -113,16 +132,17 @@ lane_lost_of fabric lost =
     ++ lane_lost_by fabric Loop lost.looping
 
 -- each part of the answer
-pub record IsLaneAnswerFor (traffic : Traffic) (asked : LevelsAsked) (told : Told) (answer : LaneAnswer) : Type 0 where
+pub record IsLaneAnswerFor (traffic : Traffic) (asked : Asked) (told : Told) (answer : LaneAnswer) : Type 0 where
   pub read : IsRead told.fabric told.found answer.read
   pub traffic_is : answer.traffic.now ≡ traffic_word traffic
   pub lanes : IsLaneCount (lanes_of told.lanes) answer.lanes
-  pub levels : answer.levels ≡ asked
+  pub asked_is : answer.asked ≡ asked
   pub counts : LaneCounts
   pub counted :
       AreLaneCounts told.fabric (tables_of told.found.cells) (lanes_of told.lanes) traffic told.levels counts
-  pub routes : answer.routes ≡ lane_routes_of counts
+  pub routes : answer.routes ≡ lane_routes_of traffic counts
   pub silent : answer.silent ≡ counts.silent
+  pub mute : IsMute told.fabric (tables_of told.found.cells) traffic told.levels answer.mute
   pub channels : IsLaneChannelCount told.fabric answer.lanes answer.channels
   pub dependencies :
       IsLaneDependencyCount told.fabric (tables_of told.found.cells) (lanes_of told.lanes) traffic told.levels
@@ -133,10 +153,12 @@ pub record IsLaneAnswerFor (traffic : Traffic) (asked : LevelsAsked) (told : Tol
   pub cycle : answer.cycle.items ≡ map (lane_step_of told.fabric) loop
   pub losses : answer.losses ≡ lane_losses_of counts.lost
   pub lost : answer.lost.items ≡ lane_lost_of told.fabric counts.lost
-  pub names : answer.names.items ≡ names_for told.text (lane_mentioned answer.cycle.items answer.lost.items)
+  pub unset : answer.unset ≡ unset_of told.text
+  pub names :
+      answer.names.items ≡ names_for told.text (lane_mentioned answer.mute answer.cycle.items answer.lost.items)
 
 -- the status means what is so of the tables, and what is written is the text of their answer
-pub record IsLaneJudged (traffic : Traffic) (asked : LevelsAsked) (told : Told) (status : Status) (written : List ℕ)
+pub record IsLaneJudged (traffic : Traffic) (asked : Asked) (told : Told) (status : Status) (written : List ℕ)
     : Type 0 where
   pub answer : LaneAnswer
   pub is_answer : IsLaneAnswerFor traffic asked told answer

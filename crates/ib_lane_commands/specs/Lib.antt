@@ -1,5 +1,6 @@
 pub mod Asked
 pub mod Inputs
+pub mod Silence
 pub mod LaneJudged
 pub mod LaneDrawn
 pub mod LaneCall

@@ -8,18 +8,20 @@ ghost use Rattle.ib_lane_counts.specs.LaneCounts.{AreLaneCounts};
 ghost use Rattle.ib_lane_verdict.specs.LaneJudgements.{IsLaneJudgement};
 ghost use Rattle.ib_lane_commands.specs.Inputs.{HasPlaces, told_in};
 ghost use Rattle.ib_lane_commands.specs.LaneJudged.{IsLaneAnswerFor, lane_routes_of};
+ghost use Rattle.ib_lane_commands.specs.Silence.{IsMute};
 
 use crate::input::Input;
 use crate::judged::cycle_of;
 use crate::losses::{losses_of, lost_of};
+use crate::mute::mute_of;
 use crate::names::names_in;
 use crate::steps::steps_of;
 use an_base::memory::OutOfMemory;
-use ib_commands::answer::read_of;
+use ib_commands::answer::{read_of, unowned_told};
 use ib_commands::words::word_of;
 use ib_lane_counts::count::count_lane_routes;
 use ib_lane_counts::counts::LaneCounts;
-use ib_lane_lines::answer::{LaneAnswer, LevelsAsked};
+use ib_lane_lines::answer::{Asked, LaneAnswer, Mute};
 use ib_lane_routes::routing::LaneRouting;
 use ib_lane_verdict::judge::LaneJudgement;
 use ib_lines::answer::Routes;
@@ -32,7 +34,7 @@ pub fn answer_for(
     alloc: Global,
     input: &Input,
     traffic: Traffic,
-    asked: LevelsAsked,
+    asked: Asked,
     judged: &LaneJudgement,
 ) -> Result<LaneAnswer, OutOfMemory>
     requires places { HasPlaces input.now }
@@ -45,20 +47,23 @@ pub fn answer_for(
     let counts = counts_for(alloc, input, traffic)?;
     let cycle = steps_of(alloc, fabric, cycle_of(judged))?;
     let lost = lost_of(alloc, fabric, counts.lost)?;
-    let names = names_in(alloc, &input.topology.text, &cycle, &lost)?;
+    let mute = mute_for(input, traffic, counts);
+    let names = names_in(alloc, &input.topology.text, mute, &cycle, &lost)?;
     let links = count_links(fabric).links;
     Ok(LaneAnswer {
         read: read_of(fabric, &input.tables, links),
         traffic: word_of(traffic),
         lanes: input.lanes.count() as u64,
-        levels: asked,
-        routes: routes_of(counts),
+        asked,
+        routes: routes_of(traffic, counts),
         silent: counts.silent,
+        mute,
         channels: judged.channels,
         dependencies: judged.dependencies,
         cycle,
         losses: losses_of(counts),
         lost,
+        unset: input.topology.unset as u64,
         names,
     })
 }
@@ -79,12 +84,30 @@ fn counts_for(alloc: Global, input: &Input, traffic: Traffic) -> Result<LaneCoun
     count_lane_routes(alloc, &routing)
 }
 
-fn routes_of(counts: LaneCounts) -> Routes
-    ensures { result ≡ lane_routes_of counts }
+// The first pair without a service level, if the counts have any.
+fn mute_for(input: &Input, traffic: Traffic, counts: LaneCounts) -> Option<Mute>
+    requires places { HasPlaces input.now }
+    requires counts { AreLaneCounts input.now.topology.fabric (tables_of input.now.tables.cells)
+        (lanes_of input.now.lanes) traffic (levels_of input.now.levels) counts }
+    ensures { IsMute input.now.topology.fabric (tables_of input.now.tables.cells) traffic
+        (levels_of input.now.levels) result }
+{
+    mute_of(
+        counts.silent,
+        &input.topology.fabric,
+        &input.tables.cells,
+        &input.levels,
+        traffic,
+    )
+}
+
+fn routes_of(traffic: Traffic, counts: LaneCounts) -> Routes
+    ensures { result ≡ lane_routes_of traffic counts }
 {
     Routes {
         routes: counts.routes,
         arrived: counts.arrived,
         hops: u64::from(counts.hops),
+        unowned: unowned_told(traffic, counts.unowned),
     }
 }

@@ -1,16 +1,20 @@
 //! With which service levels end ports send, as a call asks.
 
-ghost use Rattle.std.specs.Prelude.{◌≡◌, IfErr, IfOk};
+ghost use Rattle.std.specs.Prelude.{◌≡◌, ◌⊎◌, IfErr, IfOk};
 ghost use Rattle.outside.specs.Told.{Seen};
 ghost use Rattle.ib_rows.specs.Levels.{levels_of};
-ghost use Rattle.ib_lane_commands.specs.Asked.{AreLevelsRefused, GaveLevelsFor, IsAskedBy, IsOneOfSixteen, levels_refused};
+ghost use Rattle.ib_answering.specs.declared.status.Status.TheVariants.{OutOfMemory as Wanting};
+ghost use Rattle.ib_lane_lines.specs.declared.answer.LevelsAsked.TheVariants.{File};
+ghost use Rattle.ib_lane_commands.specs.Asked.{AreLevelsFor, AreLevelsRefused, HasLowLevels, IsAskedBy, IsOneOfSixteen};
+ghost use Rattle.ib_lane_commands.specs.Asked.{levels_refused};
 
 use an_base::text::Word;
 use ib_answering::status::Status;
-use ib_lane_lines::answer::LevelsAsked;
+use ib_lane_lines::answer::{Asked, LevelsAsked};
 use ib_levels::reader::read_levels;
 use ib_net::fabric::Fabric;
 use ib_reader::reader::TextRefusal;
+use ib_rows::in_use::in_use;
 use ib_rows::levels::Levels;
 use ib_words::lane_cause::LaneCause;
 use outside::source::Source;
@@ -44,24 +48,43 @@ fn levels_refused(refusal: TextRefusal<LaneCause>) -> Status
     }
 }
 
-/// The levels that were asked for: those of the source, which is read to its end, or else one or all sixteen for each
-/// end port and LID, and the source is left alone.
+// The levels in use by those that a source tells.
+fn read_told<P: Source>(
+    alloc: Global,
+    source: &mut P,
+    fabric: &Fabric,
+    asked: Asked,
+) -> Result<Levels, Status>
+    requires low { HasLowLevels asked }
+    requires file { asked.levels ≡ File }
+    ensures levels { IfOk result (λ levels.
+        AreLevelsFor fabric.now asked (P.seen source.old) (P.seen source.new) (levels_of levels)) }
+    ensures refused { IfErr result (λ status. (status ≡ Wanting)
+        ⊎ AreLevelsRefused fabric.now asked.levels (P.seen source.old) (P.seen source.new) status) }
+{
+    match read_levels(alloc, source, fabric) {
+        Ok(told) => Ok(in_use(alloc, fabric, told, asked.replies, asked.silent)?),
+        Err(refusal) => Err(levels_refused(refusal)),
+    }
+}
+
+/// The levels in use: those of the source, which is read to its end, or else one or all sixteen for each end port and LID,
+/// and the source is left alone. If replies count, theirs too; and a pair that has none has that of silent pairs, if one
+/// is given.
 pub fn read_asked<P: Source>(
     alloc: Global,
     source: &mut P,
     fabric: &Fabric,
-    asked: LevelsAsked,
+    asked: Asked,
 ) -> Result<Levels, Status>
-    requires { IsOneOfSixteen asked }
+    requires { HasLowLevels asked }
     ensures levels { IfOk result (λ levels.
-        GaveLevelsFor fabric.now asked (P.seen source.old) (P.seen source.new) (levels_of levels)) }
-    ensures refused { IfErr result (AreLevelsRefused fabric.now asked (P.seen source.old) (P.seen source.new)) }
+        AreLevelsFor fabric.now asked (P.seen source.old) (P.seen source.new) (levels_of levels)) }
+    ensures refused { IfErr result (λ status. (status ≡ Wanting)
+        ⊎ AreLevelsRefused fabric.now asked.levels (P.seen source.old) (P.seen source.new) status) }
 {
-    match asked {
-        LevelsAsked::File => match read_levels(alloc, source, fabric) {
-            Ok(told) => Ok(Levels::Told(told)),
-            Err(refusal) => Err(levels_refused(refusal)),
-        },
+    match asked.levels {
+        LevelsAsked::File => read_told(alloc, source, fabric, asked),
         LevelsAsked::Same(level) => Ok(Levels::Same(1u16 << level)),
         LevelsAsked::Any => Ok(Levels::Same(u16::MAX)),
     }

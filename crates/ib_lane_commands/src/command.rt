@@ -3,16 +3,16 @@
 
 ghost use Rattle.std.specs.Prelude.{◌≡◌, IfErr, IfOk};
 ghost use Rattle.ib_answering.specs.declared.status.Status.TheVariants.{OutOfMemory as Wanting};
-ghost use Rattle.ib_lane_commands.specs.Asked.{IsOneOfSixteen};
+ghost use Rattle.ib_lane_commands.specs.Asked.{HasLowLevels};
 ghost use Rattle.ib_lane_commands.specs.Inputs.{HasPlaces, IsStop, lane_sources, told_in};
 ghost use Rattle.ib_lane_commands.specs.LaneCall.{IsGiven, IsLaneAnswer, LaneGives};
-ghost use Rattle.ib_lane_lines.specs.declared.answer.LevelsAsked.{LevelsAsked};
+ghost use Rattle.ib_lane_lines.specs.declared.answer.Asked.{Asked};
 
 use crate::input::{Input, read_inputs};
 use an_base::memory::OutOfMemory;
 use ib_answering::command::{Given, tell_found};
 use ib_answering::status::Status;
-use ib_lane_lines::answer::LevelsAsked;
+use ib_lane_lines::answer::Asked;
 use outside::sink::Sink;
 use outside::source::Source;
 use std::alloc::Global;
@@ -21,10 +21,10 @@ use std::alloc::Global;
 pub trait LaneCommand {
     /// For the levels that were asked for and what the sources tell, the status with which the command ends and what it
     /// writes.
-    ghost gives: { Self → LevelsAsked → LaneGives };
+    ghost gives: { Self → Asked → LaneGives };
 
     /// What the command gives for what was read.
-    fn given(&self, alloc: Global, input: &Input, asked: LevelsAsked) -> Result<Given, OutOfMemory>
+    fn given(&self, alloc: Global, input: &Input, asked: Asked) -> Result<Given, OutOfMemory>
         requires { HasPlaces input.now }
         ensures { IfOk result (λ given. gives self.now asked (told_in input.now) given.status given.text.items) };
 }
@@ -37,9 +37,9 @@ fn found<C: LaneCommand, T: Source, S: Source, L: Source, P: Source>(
     tables: &mut S,
     lanes: &mut L,
     levels: &mut P,
-    asked: LevelsAsked,
+    asked: Asked,
 ) -> Result<Given, Status>
-    requires { IsOneOfSixteen asked }
+    requires { HasLowLevels asked }
     ensures given { IfOk result (λ given. IsGiven (C.gives command.now asked) asked
         (lane_sources (T.seen topology.old) (S.seen tables.old) (L.seen lanes.old) (P.seen levels.old))
         (lane_sources (T.seen topology.new) (S.seen tables.new) (L.seen lanes.new) (P.seen levels.new))
@@ -59,7 +59,7 @@ fn given_of<C: LaneCommand>(
     command: &C,
     alloc: Global,
     input: &Input,
-    asked: LevelsAsked,
+    asked: Asked,
 ) -> Result<Given, Status>
     requires { HasPlaces input.now }
     ensures given { IfOk result (λ given.
@@ -79,11 +79,11 @@ pub fn answer<C: LaneCommand, T: Source, S: Source, L: Source, P: Source, O: Sin
     tables: &mut S,
     lanes: &mut L,
     levels: &mut P,
-    asked: LevelsAsked,
+    asked: Asked,
     out: &mut O,
     err: &mut E,
 ) -> u8
-    requires { IsOneOfSixteen asked }
+    requires { HasLowLevels asked }
     ensures { IsLaneAnswer (C.gives command.now asked) asked
         (lane_sources (T.seen topology.old) (S.seen tables.old) (L.seen lanes.old) (P.seen levels.old))
         (lane_sources (T.seen topology.new) (S.seen tables.new) (L.seen lanes.new) (P.seen levels.new))

@@ -3,7 +3,7 @@
 ghost use Rattle.std.specs.Prelude.{◌≡◌, IfErr, IfOk};
 ghost use Rattle.outside.specs.Told.{Seen};
 ghost use Rattle.ib_answering.specs.Answer.{GaveFabric};
-ghost use Rattle.ib_lane_commands.specs.Asked.{IsOneOfSixteen};
+ghost use Rattle.ib_lane_commands.specs.Asked.{HasLowLevels};
 ghost use Rattle.ib_lane_commands.specs.Inputs.{AreLanesRefused, AreRead, HasPlaces, IsStop, lanes_refused, lane_sources, told_in};
 ghost use Rattle.ib_net.specs.Fabric.{FabricOf};
 ghost use Rattle.ib_sl2vl.specs.Reads.{GaveLanes, HasRows};
@@ -11,7 +11,7 @@ ghost use Rattle.ib_sl2vl.specs.Reads.{GaveLanes, HasRows};
 use crate::asked::read_asked;
 use ib_answering::input::{Topology, read_topology};
 use ib_answering::status::Status;
-use ib_lane_lines::answer::LevelsAsked;
+use ib_lane_lines::answer::Asked;
 use ib_net::fabric::Fabric;
 use ib_reader::reader::TextRefusal;
 use ib_rows::lanes::LaneRows;
@@ -31,7 +31,7 @@ pub struct Input {
     pub tables: Tables,
     /// The lanes of its switches.
     pub lanes: LaneRows,
-    /// With which service levels end ports send.
+    /// The service levels in use.
     pub levels: Levels,
 }
 
@@ -70,9 +70,9 @@ pub fn read_inputs<T: Source, S: Source, L: Source, P: Source>(
     tables: &mut S,
     lanes: &mut L,
     levels: &mut P,
-    asked: LevelsAsked,
+    asked: Asked,
 ) -> Result<Input, Status>
-    requires { IsOneOfSixteen asked }
+    requires { HasLowLevels asked }
     ensures read { IfOk result (λ input. AreRead asked
         (lane_sources (T.seen topology.old) (S.seen tables.old) (L.seen lanes.old) (P.seen levels.old))
         (lane_sources (T.seen topology.new) (S.seen tables.new) (L.seen lanes.new) (P.seen levels.new))
@@ -95,9 +95,9 @@ fn read_for<S: Source, L: Source, P: Source>(
     tables: &mut S,
     lanes: &mut L,
     levels: &mut P,
-    asked: LevelsAsked,
+    asked: Asked,
 ) -> Result<Input, Status>
-    requires { IsOneOfSixteen asked }
+    requires { HasLowLevels asked }
     ensures read { (old new : Seen) → GaveFabric old new topology.text.items topology.fabric
         → IfOk result (λ input. AreRead asked
         (lane_sources old (S.seen tables.old) (L.seen lanes.old) (P.seen levels.old))

@@ -10,10 +10,12 @@ ghost use Rattle.ib_rows.specs.PathLevels.{LevelsOf};
 ghost use Rattle.ib_lane_verdict.specs.LaneJudgements.{IsLaneJudgement};
 ghost use Rattle.ib_lane_commands.specs.Inputs.{HasPlaces};
 ghost use Rattle.ib_lane_commands.specs.LaneJudged.{IsLaneEndOf, IsLaneLoop};
+ghost use Rattle.ib_lane_commands.specs.Silence.{IsMute};
 
 use crate::input::Input;
 use an_base::memory::OutOfMemory;
 use ib_answering::status::Status;
+use ib_lane_lines::answer::Mute;
 use ib_lane_routes::routing::LaneRouting;
 use ib_lane_verdict::judge::{LaneJudgement, judge};
 use ib_lane_verdict::verdict::{LaneLoopChannel, LaneVerdict};
@@ -40,10 +42,11 @@ pub fn judged_for(
     judge(alloc, &routing)
 }
 
-/// How a call ends for which something was written.
-pub fn status_of(judged: &LaneJudgement) -> Status
+/// How a call ends for which something was written, by the first pair without a service level, if there is one.
+pub fn status_of(judged: &LaneJudgement, mute: Option<Mute>) -> Status
     ensures { (fabric : FabricOf) (tables : TablesOf) (lanes : LanesOf) (traffic : Traffic) (levels : LevelsOf)
         (count : ℕ) → IsLaneJudgement fabric tables lanes traffic levels count judged.now
+        → IsMute fabric tables traffic levels mute
         → IsLaneEndOf fabric tables lanes traffic levels count result }
 {
     match &judged.verdict {
@@ -52,7 +55,10 @@ pub fn status_of(judged: &LaneJudgement) -> Status
             if judged.stops {
                 return Status::RoutesLost;
             }
-            Status::Ok
+            match mute {
+                Some(_) => Status::Undecided,
+                None => Status::Ok,
+            }
         }
     }
 }

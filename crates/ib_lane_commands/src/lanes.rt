@@ -1,6 +1,6 @@
 //! The command `lanes`: the verdict on the routes of a traffic, on lanes.
 
-ghost use Rattle.ib_lane_commands.specs.Asked.{IsOneOfSixteen};
+ghost use Rattle.ib_lane_commands.specs.Asked.{HasLowLevels};
 ghost use Rattle.ib_lane_commands.specs.Inputs.{lane_sources};
 ghost use Rattle.ib_lane_commands.specs.LaneCall.{IsLanesAnswer};
 ghost use Rattle.ib_lane_commands.specs.LaneJudged.{IsLaneJudged};
@@ -11,7 +11,7 @@ use crate::input::Input;
 use crate::judged::{judged_for, status_of};
 use an_base::memory::OutOfMemory;
 use ib_answering::command::Given;
-use ib_lane_lines::answer::LevelsAsked;
+use ib_lane_lines::answer::Asked;
 use ib_lane_lines::printer::print;
 use ib_routes::traffic::Traffic;
 use outside::sink::Sink;
@@ -27,16 +27,11 @@ struct JudgeLanes {
 impl LaneCommand for JudgeLanes {
     ghost gives = { λ judge. IsLaneJudged judge.traffic };
 
-    fn given(
-        &self,
-        alloc: Global,
-        input: &Input,
-        asked: LevelsAsked,
-    ) -> Result<Given, OutOfMemory> {
+    fn given(&self, alloc: Global, input: &Input, asked: Asked) -> Result<Given, OutOfMemory> {
         let judged = judged_for(alloc, input, self.traffic)?;
         let answer = answer_for(alloc, input, self.traffic, asked, &judged)?;
         Ok(Given {
-            status: status_of(&judged),
+            status: status_of(&judged, answer.mute),
             text: print(alloc, &answer)?,
         })
     }
@@ -51,12 +46,12 @@ pub fn lanes<T: Source, S: Source, L: Source, P: Source, O: Sink, E: Sink>(
     tables: &mut S,
     lanes: &mut L,
     levels: &mut P,
-    asked: LevelsAsked,
+    asked: Asked,
     out: &mut O,
     err: &mut E,
     traffic: Traffic,
 ) -> u8
-    requires { IsOneOfSixteen asked }
+    requires { HasLowLevels asked }
     ensures { IsLanesAnswer traffic asked
         (lane_sources (T.seen topology.old) (S.seen tables.old) (L.seen lanes.old) (P.seen levels.old))
         (lane_sources (T.seen topology.new) (S.seen tables.new) (L.seen lanes.new) (P.seen levels.new))

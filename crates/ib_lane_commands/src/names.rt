@@ -2,38 +2,51 @@
 
 ghost use Rattle.std.specs.Prelude.{◌≡◌, IfOk};
 ghost use Rattle.ib_commands.specs.Names.{names_for};
-ghost use Rattle.ib_lane_commands.specs.LaneJudged.{lane_mentioned};
+ghost use Rattle.ib_lane_commands.specs.LaneJudged.{lane_mentioned, mute_guids};
 
 use an_base::memory::OutOfMemory;
 use ib_commands::names::{insert_two, names_for};
-use ib_lane_lines::answer::{LaneLost, LaneStep};
+use ib_lane_lines::answer::{LaneLost, LaneStep, Mute};
 use ib_lines::answer::Name;
 use indexmap::IndexSet;
 use std::alloc::Global;
 
-/// The names that the text of a topology tells of the nodes of these steps and lost routes, each once, in the order in
-/// which they stand there.
+/// The names that the text of a topology tells of the nodes of this silent pair, these steps and lost routes, each once,
+/// in the order in which they stand there.
 pub fn names_in(
     alloc: Global,
     text: &[u8],
+    mute: Option<Mute>,
     steps: &[LaneStep],
     lost: &[LaneLost],
 ) -> Result<Vec<Name>, OutOfMemory>
-    ensures { IfOk result (λ names. names.items ≡ names_for text.now (lane_mentioned steps.now lost.now)) }
+    ensures { IfOk result (λ names. names.items ≡ names_for text.now (lane_mentioned mute steps.now lost.now)) }
 {
-    let guids = guids_in(alloc, steps, lost)?;
+    let guids = guids_in(alloc, mute, steps, lost)?;
     names_for(alloc, text, &guids)
 }
 
-// The nodes of steps and of lost routes.
+// The node of a silent pair.
+fn mute_guids(alloc: Global, mute: Option<Mute>) -> Result<IndexSet<u64>, OutOfMemory>
+    ensures { IfOk result (λ guids. guids.keys ≡ mute_guids mute) }
+{
+    let mut guids = IndexSet::new(alloc);
+    if let Some(pair) = mute {
+        guids.insert(pair.source)?;
+    }
+    Ok(guids)
+}
+
+// It, and the nodes of steps and of lost routes.
 fn guids_in(
     alloc: Global,
+    mute: Option<Mute>,
     steps: &[LaneStep],
     lost: &[LaneLost],
 ) -> Result<IndexSet<u64>, OutOfMemory>
-    ensures { IfOk result (λ guids. guids.keys ≡ lane_mentioned steps.now lost.now) }
+    ensures { IfOk result (λ guids. guids.keys ≡ lane_mentioned mute steps.now lost.now) }
 {
-    let mut guids = IndexSet::new(alloc);
+    let mut guids = mute_guids(alloc, mute)?;
     'steps: for one in steps {
         insert_two(&mut guids, one.step.guid, one.step.source)?;
     }

@@ -1,21 +1,25 @@
 //! The command `dot` with lanes: the credit loop as a picture.
 
 ghost use Rattle.std.specs.Prelude.{◌≡◌, ◌++◌, IfOk, OnOk};
-ghost use Rattle.ib_lane_commands.specs.Asked.{IsOneOfSixteen};
+ghost use Rattle.ib_lane_commands.specs.Asked.{HasLowLevels};
 ghost use Rattle.ib_lane_commands.specs.Inputs.{HasPlaces, lane_sources, told_in};
+ghost use Rattle.ib_cells.specs.Cells.{tables_of};
+ghost use Rattle.ib_rows.specs.Levels.{levels_of};
 ghost use Rattle.ib_lane_commands.specs.LaneCall.{IsLanesDrawn};
+ghost use Rattle.ib_lane_commands.specs.Silence.{IsMute};
 ghost use Rattle.ib_lane_commands.specs.LaneDrawn.{IsLaneDrawn, IsLanePictureOf, lane_arrow_at, lane_arrows_of, lane_switches_of};
 
 use crate::command::{LaneCommand, answer};
 use crate::input::Input;
 use crate::judged::{cycle_of, judged_for, status_of};
+use crate::mute::first_mute;
 use crate::steps::without_lane;
 use an_base::memory::OutOfMemory;
 use ib_answering::command::Given;
 use ib_commands::dot::arrow_for;
 use ib_commands::names::names_for;
 use ib_commands::words::word_of;
-use ib_lane_lines::answer::LevelsAsked;
+use ib_lane_lines::answer::{Asked, Mute};
 use ib_lane_lines::picture::{LaneArrow, LanePicture, print_picture};
 use ib_lane_verdict::verdict::LaneLoopChannel;
 use ib_net::fabric::Fabric;
@@ -34,19 +38,29 @@ struct DrawLanes {
 impl LaneCommand for DrawLanes {
     ghost gives = { λ draw. IsLaneDrawn draw.traffic };
 
-    fn given(
-        &self,
-        alloc: Global,
-        input: &Input,
-        asked: LevelsAsked,
-    ) -> Result<Given, OutOfMemory> {
+    fn given(&self, alloc: Global, input: &Input, asked: Asked) -> Result<Given, OutOfMemory> {
         let judged = judged_for(alloc, input, self.traffic)?;
         let picture = picture_for(alloc, input, self.traffic, asked, cycle_of(&judged))?;
+        let mute = mute_in(input, self.traffic);
         Ok(Given {
-            status: status_of(&judged),
+            status: status_of(&judged, mute),
             text: print_picture(alloc, &picture)?,
         })
     }
+}
+
+// The first pair without a service level.
+fn mute_in(input: &Input, traffic: Traffic) -> Option<Mute>
+    requires { HasPlaces input.now }
+    ensures { IsMute input.now.topology.fabric (tables_of input.now.tables.cells) traffic
+        (levels_of input.now.levels) result }
+{
+    first_mute(
+        &input.topology.fabric,
+        &input.tables.cells,
+        &input.levels,
+        traffic,
+    )
 }
 
 // The picture of the channels of a loop.
@@ -54,7 +68,7 @@ fn picture_for(
     alloc: Global,
     input: &Input,
     traffic: Traffic,
-    asked: LevelsAsked,
+    asked: Asked,
     cycle: &[LaneLoopChannel],
 ) -> Result<LanePicture, OutOfMemory>
     ensures picture { IfOk result (IsLanePictureOf traffic asked (told_in input.now) cycle.now) }
@@ -66,7 +80,7 @@ fn picture_for(
     Ok(LanePicture {
         traffic: word_of(traffic),
         lanes: input.lanes.count() as u64,
-        levels: asked,
+        asked,
         names,
         arrows,
     })
@@ -126,12 +140,12 @@ pub fn draw_lanes<T: Source, S: Source, L: Source, P: Source, O: Sink, E: Sink>(
     tables: &mut S,
     lanes: &mut L,
     levels: &mut P,
-    asked: LevelsAsked,
+    asked: Asked,
     out: &mut O,
     err: &mut E,
     traffic: Traffic,
 ) -> u8
-    requires { IsOneOfSixteen asked }
+    requires { HasLowLevels asked }
     ensures { IsLanesDrawn traffic asked
         (lane_sources (T.seen topology.old) (S.seen tables.old) (L.seen lanes.old) (P.seen levels.old))
         (lane_sources (T.seen topology.new) (S.seen tables.new) (L.seen lanes.new) (P.seen levels.new))

@@ -15,7 +15,7 @@ use Rattle.ib_lane_counts.specs.declared.counts.LaneLoss.{LaneLoss}
 use Rattle.ib_lane_counts.specs.declared.counts.LostLaneRoute.{LostLaneRoute}
 use Rattle.ib_lane_counts.specs.Alike.{IsBelow, alike, least_with, loss_with, losses_with}
 use Rattle.ib_lane_counts.specs.Keep.{IsKept}
-use Rattle.ib_lane_counts.specs.LaneCounts.{AreCountsOf, AreMostHops, IsLaneRouteOf, IsLeastLost, IsLoss, IsOneThat, IsOneThatArrives, IsSilent, LaneRoute, LaneRouteEnds, LaneRouteIsLost, lane_route_of}
+use Rattle.ib_lane_counts.specs.LaneCounts.{AreCountsOf, AreMostHops, IsLaneRouteOf, IsLeastLost, IsLoss, IsOneThat, IsOneThatArrives, IsOneToNobody, IsSilent, LaneRoute, LaneRouteEnds, LaneRouteIsLost, lane_route_of}
 use Rattle.ib_lane_counts.specs.Steps.{on_lanes}
 use Rattle.ib_lane_counts.specs.Sums.{pair_of}
 use Rattle.ib_lane_counts.proofs.KeptLemmas.{ends_on_one, ends_there, kept_here, lost_there}
@@ -23,7 +23,7 @@ use Rattle.ib_lane_counts.proofs.MoreLemmas.{counts_same}
 use Rattle.ib_lane_routes.specs.declared.hop.LaneOutcome.{LaneOutcome}
 use Rattle.ib_lane_routes.specs.declared.hop.LaneOutcome.TheVariants.{Arrives, Discards}
 use Rattle.ib_net.specs.declared.node.EndPort.{EndPort}
-use Rattle.ib_net.specs.Fabric.{FabricOf, IsFabric}
+use Rattle.ib_net.specs.Fabric.{FabricOf, IsFabric, owner_of}
 use Rattle.ib_routes.specs.Counting.{IsCountOf}
 use Rattle.ib_routes.specs.declared.hop.Cause.TheVariants.{Missing, Dead, Wrong}
 use Rattle.ib_routes.specs.declared.hop.Outcome.{Outcome}
@@ -38,10 +38,10 @@ route_at level pair = record { lid = pair.lid; source = pair.source; level = lev
 
 module _ (fabric : FabricOf) (fits : IsFabric fabric) (tables : TablesOf) (lanes : LanesOf) (traffic : Traffic) (told : ℕ) (kept : IsKept fabric lanes told) where
   abbrev IsRoute : LaneRoute → Type 0
-  IsRoute = IsLaneRouteOf fabric traffic (alike told)
+  IsRoute = IsLaneRouteOf fabric tables traffic (alike told)
 
   abbrev Below : ℕ → LaneRoute → Type 0
-  Below = IsBelow fabric traffic told
+  Below = IsBelow fabric tables traffic told
 
   abbrev Ends : LaneOutcome → LaneRoute → Type 0
   Ends outcome route = LaneRouteEnds fabric tables lanes route outcome
@@ -66,7 +66,7 @@ module _ (fabric : FabricOf) (fits : IsFabric fabric) (tables : TablesOf) (lanes
     abbrev At : LaneRoute → Type 0
     At route = IsRoute route × (route.level ≡ level)
 
-    is_at : (pair : Route) → IsOf fabric traffic pair → IsRoute (route_at level pair)
+    is_at : (pair : Route) → IsOf fabric tables traffic pair → IsRoute (route_at level pair)
     is_at pair sends = record { sends = sends; has = (low, bit) }
 
     same_at : (route : LaneRoute) → route.level ≡ level → route_at level (pair_of route) ≡ route
@@ -88,13 +88,13 @@ module _ (fabric : FabricOf) (fits : IsFabric fabric) (tables : TablesOf) (lanes
     apart route below at = absurd (let less = below.1 in let here = at.1 in omega arith)
 
     -- .. as many end so as on one lane
-    count_at : (outcome : Outcome) (count : ℕ) → IsCountOf (on_one.IsOneThat fabric tables (IsOf fabric traffic) outcome) count → IsCountOf (λ route. At route × Ends (on_lanes outcome) route) count
-    count_at outcome count = count_image Route LaneRoute (route_at level) (on_one.IsOneThat fabric tables (IsOf fabric traffic) outcome) (λ route. At route × Ends (on_lanes outcome) route) count
+    count_at : (outcome : Outcome) (count : ℕ) → IsCountOf (on_one.IsOneThat fabric tables (IsOf fabric tables traffic) outcome) count → IsCountOf (λ route. At route × Ends (on_lanes outcome) route) count
+    count_at outcome count = count_image Route LaneRoute (route_at level) (on_one.IsOneThat fabric tables (IsOf fabric tables traffic) outcome) (λ route. At route × Ends (on_lanes outcome) route) count
         (λ pair is. ((is_at pair is.0, refl), to_lanes outcome (route_at level pair) (is_at pair is.0) is.1))
         (λ route is. (pair_of route, (is.0.0.sends, to_one outcome route is.1), same_at route is.0.1))
         (λ pair other same. ap pair_of same)
 
-    least_at : (outcome : Outcome) (old : Option LostLaneRoute) (least : Option LostRoute) → MatchOption old ((route : LaneRoute) → IsOneThat fabric tables lanes (Below level) (on_lanes outcome) route → ⊥) (IsLeastLost fabric tables lanes (Below level) (on_lanes outcome)) → MatchOption least ((pair : Route) → on_one.IsOneThat fabric tables (IsOf fabric traffic) outcome pair → ⊥) (on_one.IsLeastLost fabric tables (IsOf fabric traffic) outcome) → MatchOption (least_with level old least) ((route : LaneRoute) → IsOneThat fabric tables lanes (Below (level + 1)) (on_lanes outcome) route → ⊥) (IsLeastLost fabric tables lanes (Below (level + 1)) (on_lanes outcome))
+    least_at : (outcome : Outcome) (old : Option LostLaneRoute) (least : Option LostRoute) → MatchOption old ((route : LaneRoute) → IsOneThat fabric tables lanes (Below level) (on_lanes outcome) route → ⊥) (IsLeastLost fabric tables lanes (Below level) (on_lanes outcome)) → MatchOption least ((pair : Route) → on_one.IsOneThat fabric tables (IsOf fabric tables traffic) outcome pair → ⊥) (on_one.IsLeastLost fabric tables (IsOf fabric tables traffic) outcome) → MatchOption (least_with level old least) ((route : LaneRoute) → IsOneThat fabric tables lanes (Below (level + 1)) (on_lanes outcome) route → ⊥) (IsLeastLost fabric tables lanes (Below (level + 1)) (on_lanes outcome))
     least_at outcome (Some found) least is new =
         let less = is.is.0.1 in
         let down : (other : LaneRoute) → IsRoute other → Ends (on_lanes outcome) other → IsOneThat fabric tables lanes (Below level) (on_lanes outcome) (route_at found.level (pair_of other)) = (λ other sent ends. (
@@ -133,7 +133,7 @@ module _ (fabric : FabricOf) (fits : IsFabric fabric) (tables : TablesOf) (lanes
           ];
         }
 
-    pub loss_at : (outcome : Outcome) (old : LaneLoss) (loss : Loss) → IsLoss fabric tables lanes (Below level) (on_lanes outcome) old → on_one.IsLoss fabric tables (IsOf fabric traffic) outcome loss → IsLoss fabric tables lanes (Below (level + 1)) (on_lanes outcome) (loss_with level old loss)
+    pub loss_at : (outcome : Outcome) (old : LaneLoss) (loss : Loss) → IsLoss fabric tables lanes (Below level) (on_lanes outcome) old → on_one.IsLoss fabric tables (IsOf fabric tables traffic) outcome loss → IsLoss fabric tables lanes (Below (level + 1)) (on_lanes outcome) (loss_with level old loss)
     loss_at outcome old loss is new = record {
       count = count_sum LaneRoute (IsOneThat fabric tables lanes (Below level) (on_lanes outcome)) (λ route. At route × Ends (on_lanes outcome) route) (IsOneThat fabric tables lanes (Below (level + 1)) (on_lanes outcome)) old.count loss.count
           (λ route that. (to route that.0, that.1)) (λ route that. (add route that.0, that.1))
@@ -153,7 +153,7 @@ module _ (fabric : FabricOf) (fits : IsFabric fabric) (tables : TablesOf) (lanes
         none_more None none = λ route that. not_discarded route that.0.0 that.1
         none_more (Some found) is_least = absurd (not_discarded (lane_route_of found) is_least.is.0.0 is_least.is.1)
 
-    hops_at : (old hops most : ℕ) → most ≡ max old hops → AreMostHops fabric tables lanes (Below level) old → on_one.AreMostHops fabric tables (IsOf fabric traffic) hops → AreMostHops fabric tables lanes (Below (level + 1)) most
+    hops_at : (old hops most : ℕ) → most ≡ max old hops → AreMostHops fabric tables lanes (Below level) old → on_one.AreMostHops fabric tables (IsOf fabric tables traffic) hops → AreMostHops fabric tables lanes (Below (level + 1)) most
     hops_at old hops most is_most are new = record {
       most = λ route switches that. elim (back route that.0) [
         | inl before ↦ (let le = are.most route switches (before, that.1) in omega arith)
@@ -173,27 +173,39 @@ module _ (fabric : FabricOf) (fits : IsFabric fabric) (tables : TablesOf) (lanes
       ];
     }
 
-    arrived_at : (old count : ℕ) → IsCountOf (IsOneThatArrives fabric tables lanes (Below level)) old → IsCountOf (on_one.IsOneThatArrives fabric tables (IsOf fabric traffic)) count → IsCountOf (IsOneThatArrives fabric tables lanes (Below (level + 1))) (old + count)
+    arrived_at : (old count : ℕ) → IsCountOf (IsOneThatArrives fabric tables lanes (Below level)) old → IsCountOf (on_one.IsOneThatArrives fabric tables (IsOf fabric tables traffic)) count → IsCountOf (IsOneThatArrives fabric tables lanes (Below (level + 1))) (old + count)
     arrived_at old count is new = count_sum LaneRoute (IsOneThatArrives fabric tables lanes (Below level)) (λ route. At route × ((switches : ℕ) × Ends (Arrives switches) route)) (IsOneThatArrives fabric tables lanes (Below (level + 1))) old count
         (λ route that. (that.0, (to route that.1.0, that.1.1))) (λ route that. (that.1.0, (add route that.0, that.1.1)))
         (λ route that. elim (back route that.1.0) [ inl before ↦ inl (that.0, (before, that.1.1)) | inr now ↦ inr (now, (that.0, that.1.1)) ])
         (λ route before now. apart route before.1.0 now.0) is
-        (count_image Route LaneRoute (route_at level) (on_one.IsOneThatArrives fabric tables (IsOf fabric traffic)) (λ route. At route × ((switches : ℕ) × Ends (Arrives switches) route)) count
+        (count_image Route LaneRoute (route_at level) (on_one.IsOneThatArrives fabric tables (IsOf fabric tables traffic)) (λ route. At route × ((switches : ℕ) × Ends (Arrives switches) route)) count
         (λ pair that. ((is_at pair that.1.0, refl), (that.0, to_lanes (end.Arrives that.0) (route_at level pair) (is_at pair that.1.0) that.1.1)))
         (λ route that. (pair_of route, (that.1.0, (that.0.0.sends, to_one (end.Arrives that.1.0) route that.1.1)), same_at route that.0.1))
+        (λ pair other same. ap pair_of same) new)
+
+    unowned_at : (old count : ℕ) → IsCountOf (IsOneToNobody fabric tables lanes (Below level)) old → IsCountOf (on_one.IsOneToNobody fabric tables (IsOf fabric tables traffic)) count → IsCountOf (IsOneToNobody fabric tables lanes (Below (level + 1))) (old + count)
+    unowned_at old count is new = count_sum LaneRoute (IsOneToNobody fabric tables lanes (Below level)) (λ route. At route × ((switches : ℕ) × Ends (Arrives switches) route) × (owner_of fabric route.lid ≡ None)) (IsOneToNobody fabric tables lanes (Below (level + 1))) old count
+        (λ route that. ((that.0.0, (to route that.0.1.0, that.0.1.1)), that.1)) (λ route that. ((that.1.0, (add route that.0, that.1.1)), that.2))
+        (λ route that. elim (back route that.0.1.0) [ inl before ↦ inl ((that.0.0, (before, that.0.1.1)), that.1) | inr now ↦ inr (now, (that.0.0, that.0.1.1), that.1) ])
+        (λ route before now. apart route before.0.1.0 now.0) is
+        (count_image Route LaneRoute (route_at level) (on_one.IsOneToNobody fabric tables (IsOf fabric tables traffic)) (λ route. At route × ((switches : ℕ) × Ends (Arrives switches) route) × (owner_of fabric route.lid ≡ None)) count
+        (λ pair that. ((is_at pair that.0.1.0, refl), (that.0.0, to_lanes (end.Arrives that.0.0) (route_at level pair) (is_at pair that.0.1.0) that.0.1.1), that.1))
+        (λ route that. (pair_of route, ((that.1.0, (that.0.0.sends, to_one (end.Arrives that.1.0) route that.1.1)), that.2), same_at route that.0.1))
         (λ pair other same. ap pair_of same) new)
 
     pub counts_at : (old : LaneCounts) (counts : Counts) (most : ℕ) → most ≡ max old.hops counts.hops → AreCountsOf fabric tables lanes (Below level) old → AreCounts fabric tables traffic counts → AreCountsOf fabric tables lanes (Below (level + 1)) (record {
       routes = old.routes + counts.routes;
       arrived = old.arrived + counts.arrived;
+      unowned = old.unowned + counts.unowned;
       hops = most;
       lost = losses_with level old.lost counts.lost;
       silent = old.silent;
     })
     counts_at old counts most is_most are new = record {
       routes = count_sum LaneRoute (Below level) At (Below (level + 1)) old.routes counts.routes to add back apart are.routes
-          (count_image Route LaneRoute (route_at level) (IsOf fabric traffic) At counts.routes (λ pair sends. (is_at pair sends, refl)) (λ route that. (pair_of route, that.0.sends, same_at route that.1)) (λ pair other same. ap pair_of same) new.routes);
+          (count_image Route LaneRoute (route_at level) (IsOf fabric tables traffic) At counts.routes (λ pair sends. (is_at pair sends, refl)) (λ route that. (pair_of route, that.0.sends, same_at route that.1)) (λ pair other same. ap pair_of same) new.routes);
       arrived = arrived_at old.arrived counts.arrived are.arrived new.arrived;
+      unowned = unowned_at old.unowned counts.unowned are.unowned new.unowned;
       hops = hops_at old.hops counts.hops most is_most are.hops new.hops;
       lost = record {
         missing = loss_at (end.Stops Missing) old.lost.missing counts.lost.missing are.lost.missing new.lost.missing;
@@ -218,18 +230,18 @@ module _ (fabric : FabricOf) (fits : IsFabric fabric) (tables : TablesOf) (lanes
   counts_of_all counts are = counts_same fabric tables lanes (Below 16) IsRoute (λ route below. below.0) counts (λ route is. (is, is.has.0)) are
 
 -- all pairs are silent, or none is
-pub all_silent : (fabric : FabricOf) (traffic : Traffic) (count : ℕ) → IsCountOf (IsOf fabric traffic) count → IsCountOf (IsSilent fabric traffic (alike 0)) count
-all_silent fabric traffic count = count_same Route (IsOf fabric traffic) (IsSilent fabric traffic (alike 0)) count
+pub all_silent : (fabric : FabricOf) (tables : TablesOf) (traffic : Traffic) (count : ℕ) → IsCountOf (IsOf fabric tables traffic) count → IsCountOf (IsSilent fabric tables traffic (alike 0)) count
+all_silent fabric tables traffic count = count_same Route (IsOf fabric tables traffic) (IsSilent fabric tables traffic (alike 0)) count
     (λ pair sends. record { sends = sends; none = λ level has. absurd (let no = bit_at-zero level in let bit = has.1 in omega arith) }) (λ pair silent. silent.sends)
 
-pub none_silent : (fabric : FabricOf) (traffic : Traffic) (told : ℕ) → told ≢ 0 → told < 2 ^ 16 → IsCountOf (IsSilent fabric traffic (alike told)) 0
-none_silent fabric traffic told some small = count_none Route (IsSilent fabric traffic (alike told)) (λ pair silent. (let low = bit_at-trailing_zeros w16 told (omega arith) small in silent.none (trailing_zeros w16 told) (low.0, low.1)))
+pub none_silent : (fabric : FabricOf) (tables : TablesOf) (traffic : Traffic) (told : ℕ) → told ≢ 0 → told < 2 ^ 16 → IsCountOf (IsSilent fabric tables traffic (alike told)) 0
+none_silent fabric tables traffic told some small = count_none Route (IsSilent fabric tables traffic (alike told)) (λ pair silent. (let low = bit_at-trailing_zeros w16 told (omega arith) small in silent.none (trailing_zeros w16 told) (low.0, low.1)))
 
-pub alike_silent : (fabric : FabricOf) (traffic : Traffic) (told pairs silent : ℕ) → told < 2 ^ 16 → (told ≡ 0 → silent ≡ pairs) → (told ≢ 0 → silent ≡ 0) → IsCountOf (IsOf fabric traffic) pairs → IsCountOf (IsSilent fabric traffic (alike told)) silent
-alike_silent fabric traffic told pairs silent small all none count = elim (cases_eq told 0) [
-  | inl zero ↦ subst (λ (n : ℕ). IsCountOf (IsSilent fabric traffic (alike told)) n) (sym (all zero)) (subst (λ (t : ℕ). IsCountOf (IsSilent fabric traffic (alike t)) pairs) (sym zero) (all_silent fabric traffic pairs count))
-  | inr some ↦ subst (λ (n : ℕ). IsCountOf (IsSilent fabric traffic (alike told)) n) (sym (none some)) (none_silent fabric traffic told some small)
+pub alike_silent : (fabric : FabricOf) (tables : TablesOf) (traffic : Traffic) (told pairs silent : ℕ) → told < 2 ^ 16 → (told ≡ 0 → silent ≡ pairs) → (told ≢ 0 → silent ≡ 0) → IsCountOf (IsOf fabric tables traffic) pairs → IsCountOf (IsSilent fabric tables traffic (alike told)) silent
+alike_silent fabric tables traffic told pairs silent small all none count = elim (cases_eq told 0) [
+  | inl zero ↦ subst (λ (n : ℕ). IsCountOf (IsSilent fabric tables traffic (alike told)) n) (sym (all zero)) (subst (λ (t : ℕ). IsCountOf (IsSilent fabric tables traffic (alike t)) pairs) (sym zero) (all_silent fabric tables traffic pairs count))
+  | inr some ↦ subst (λ (n : ℕ). IsCountOf (IsSilent fabric tables traffic (alike told)) n) (sym (none some)) (none_silent fabric tables traffic told some small)
 ]
 
-pub none_below : (fabric : FabricOf) (traffic : Traffic) (told : ℕ) (route : LaneRoute) → IsBelow fabric traffic told 0 route → ⊥
-none_below fabric traffic told route below = absurd (let less = below.1 in omega arith)
+pub none_below : (fabric : FabricOf) (tables : TablesOf) (traffic : Traffic) (told : ℕ) (route : LaneRoute) → IsBelow fabric tables traffic told 0 route → ⊥
+none_below fabric tables traffic told route below = absurd (let less = below.1 in omega arith)

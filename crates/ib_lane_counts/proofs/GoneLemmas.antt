@@ -21,7 +21,7 @@ use Rattle.ib_net.specs.declared.node.Side.TheVariants.{Bare, To, End}
 use Rattle.ib_net.specs.declared.node.Spot.{Spot}
 use Rattle.ib_net.specs.Fabric.{FabricOf, IsFabric, owner_of, side_of, switch_count}
 use Rattle.ib_routes.specs.declared.hop.Hop.TheVariants as one
-use Rattle.ib_routes.specs.Routes.{end_if, hop, hop_by, hop_over, is_host, is_switch}
+use Rattle.ib_routes.specs.Routes.{end_if, hop, hop_by, hop_over, ends_at_host, ends_at_switch}
 use Rattle.ib_routes.specs.Waves.{HasBit}
 use Rattle.ib_routes.proofs.ChannelLemmas.{hop_within}
 use Rattle.ib_routes.proofs.WordLemmas.{joined_is}
@@ -87,12 +87,12 @@ module _ (fabric : FabricOf) (tables : TablesOf) (lanes : LanesOf) (lid : ℕ) w
     -- what goes on goes to the port to which the exit leads
     exit_goes : (exit : Exit) (port lane : ℕ) (next : Spot) → by_exit exit ≡ On port lane next → exit ≡ By port (To next.switch next.port)
     exit_goes Nowhere port lane next is = absurd (cc)
-    exit_goes Own port lane next is = absurd (end_goes (is_switch (owner_of fabric lid) at.switch) port lane next is)
+    exit_goes Own port lane next is = absurd (end_goes (ends_at_switch (owner_of fabric lid) at.switch) port lane next is)
     exit_goes (By by Bare) port lane next is = absurd (cc)
     exit_goes (By by (To to entry)) port lane next is =
         let parts = to_goes (eqb (lanes at.switch at.port by level) 15) by (lanes at.switch at.port by level) to entry port lane next is in
         ap (λ (p : ℕ). By p (To to entry)) parts.2 ∙ ap (λ (s : ℕ). By port (To s entry)) parts.0 ∙ ap (λ (e : ℕ). By port (To next.switch e)) parts.1
-    exit_goes (By by (End end)) port lane next is = absurd (over_end (eqb (lanes at.switch at.port by level) 15) (is_host (owner_of fabric lid) end) port lane next is)
+    exit_goes (By by (End end)) port lane next is = absurd (over_end (eqb (lanes at.switch at.port by level) 15) (ends_at_host (owner_of fabric lid) end) port lane next is)
 
     pub goes_next : (port lane : ℕ) (next : Spot) → at_level level at ≡ On port lane next → IsNext fabric tables lanes lid at.switch next
     goes_next port lane next is = (port, exit_goes (exit_of fabric at.switch (tables at.switch lid)) port lane next (hop_is fabric lanes level lid at tables (exit_of fabric at.switch (tables at.switch lid)) refl ∙ is))
@@ -113,7 +113,7 @@ module _ (fabric : FabricOf) (tables : TablesOf) (lanes : LanesOf) (lid : ℕ) w
       where
         stays : (exit : Exit) → ((port : ℕ) (side : Side) → exit ≡ By port side → HasLane side → ⊥) → by_exit exit ≡ Discard → ⊥
         stays Nowhere none is = absurd (cc)
-        stays Own none is = end_gone (is_switch (owner_of fabric lid) at.switch) is
+        stays Own none is = end_gone (ends_at_switch (owner_of fabric lid) at.switch) is
         stays (By port Bare) none is = absurd (cc)
         stays (By port (To next entry)) none is = none port (To next entry) refl tt
         stays (By port (End end)) none is = none port (End end) refl tt
@@ -122,12 +122,12 @@ module _ (fabric : FabricOf) (tables : TablesOf) (lanes : LanesOf) (lid : ℕ) w
     lane_gone : (port : ℕ) (side : Side) → HasLane side → by_exit (By port side) ≡ Discard → lanes at.switch at.port port level ≡ 15
     lane_gone port Bare has is = absurd has
     lane_gone port (To next entry) has is = eqb-true (lanes at.switch at.port port level) 15 (gone_if (eqb (lanes at.switch at.port port level) 15) (On port (lanes at.switch at.port port level) (record { switch = next; port = entry })) (λ e. absurd (cc)) is)
-    lane_gone port (End end) has is = eqb-true (lanes at.switch at.port port level) 15 (gone_if (eqb (lanes at.switch at.port port level) 15) (lane_end_if (is_host (owner_of fabric lid) end)) (end_gone (is_host (owner_of fabric lid) end)) is)
+    lane_gone port (End end) has is = eqb-true (lanes at.switch at.port port level) 15 (gone_if (eqb (lanes at.switch at.port port level) 15) (lane_end_if (ends_at_host (owner_of fabric lid) end)) (end_gone (ends_at_host (owner_of fabric lid) end)) is)
 
     -- and nowhere else
     gone_by : (exit : Exit) → by_exit exit ≡ Discard → (port : ℕ) × (side : Side) × (exit ≡ By port side) × HasLane side × (lanes at.switch at.port port level ≡ 15)
     gone_by Nowhere is = absurd (cc)
-    gone_by Own is = absurd (end_gone (is_switch (owner_of fabric lid) at.switch) is)
+    gone_by Own is = absurd (end_gone (ends_at_switch (owner_of fabric lid) at.switch) is)
     gone_by (By port Bare) is = absurd (cc)
     gone_by (By port (To next entry)) is = (port, To next entry, refl, tt, lane_gone port (To next entry) tt is)
     gone_by (By port (End end)) is = (port, End end, refl, tt, lane_gone port (End end) tt is)
@@ -240,7 +240,7 @@ module _ (fabric : FabricOf) (tables : TablesOf) (lanes : LanesOf) (lid : ℕ) w
       let (told, some, side) = exit_side fabric switch (tables switch lid) port (To next.switch next.port) is in (
         port,
         ap (hop_by fabric switch lid) told
-            ∙ ap (λ (b : Bool). cond b (end_if (is_switch (owner_of fabric lid) switch)) (hop_over (owner_of fabric lid) port (side_of fabric switch port))) (ne_eqb port 0 some)
+            ∙ ap (λ (b : Bool). cond b (end_if (ends_at_switch (owner_of fabric lid) switch)) (hop_over (owner_of fabric lid) port (side_of fabric switch port))) (ne_eqb port 0 some)
             ∙ ap (hop_over (owner_of fabric lid) port) (sym side),
       )
 

@@ -19,6 +19,7 @@ use Rattle.ib_net.specs.Fabric.{FabricOf, IsFabric}
 use Rattle.ib_routes.specs.declared.hop.Outcome.{Outcome}
 use Rattle.ib_routes.specs.declared.traffic.Traffic.{Traffic}
 use Rattle.ib_routes.specs.Routes.{EndsAs}
+use Rattle.ib_routes.proofs.StartLemmas.{sender_is}
 use Rattle.ib_rows.specs.Lanes.{LanesOf}
 use Rattle.ib_rows.specs.PathLevels.{HasLevel, LevelsOf}
 
@@ -33,10 +34,10 @@ ends_on_one fabric tables lanes outcome route ends = record {
 -- all levels are among some, with which nothing is discarded
 module _ (fabric : FabricOf) (fits : IsFabric fabric) (tables : TablesOf) (lanes : LanesOf) (traffic : Traffic) (levels : LevelsOf) (told : ℕ) (kept : IsKept fabric lanes told) (used : (source : EndPort) (lid level : ℕ) → HasLevel levels source lid level → bit_at told level ≡ 1) where
   abbrev IsRoute : LaneRoute → Type 0
-  IsRoute = IsLaneRouteOf fabric traffic levels
+  IsRoute = IsLaneRouteOf fabric tables traffic levels
 
   is_kept : (route : LaneRoute) → IsRoute route → (start : Spot) → begin_of fabric route.source ≡ Some start → LaneEndsAs (lane_hop fabric tables lanes route.level route.lid) start Discards → ⊥
-  is_kept route is start begins = none_gone fabric fits tables lanes told kept route.level route.lid is.has.0 (used route.source route.lid route.level is.has) traffic route.source start is.sends.is_source begins
+  is_kept route is start begins = none_gone fabric fits tables lanes told kept route.level route.lid is.has.0 (used route.source route.lid route.level is.has) traffic route.source start (sender_is fabric tables traffic route.lid route.source is.sends) begins
 
   pub kept_here : (route : LaneRoute) → IsRoute route → LaneRouteEnds fabric tables lanes route Discards → ⊥
   kept_here route is ends = is_kept route is ends.start ends.begins ends.ends

@@ -1,5 +1,5 @@
 -- The routes of an end port to a LID with all its levels, and if they all arrive.
-use Rattle.std.proofs.Common.{◌≡◌, ◌≢◌, ◌∙◌, sym, ap, refl, subst, ℕ, zero, suc, ◌+◌, ◌-◌, ◌*◌, ◌/◌, ◌%◌, ◌^◌, ◌<◌, ◌≤◌, ◌⊎◌, ◌↔◌, Some, arith, inl, inr, max, mul_comm}
+use Rattle.std.proofs.Common.{◌≡◌, ◌≢◌, ◌∙◌, sym, ap, refl, subst, ℕ, zero, suc, ◌+◌, ◌-◌, ◌*◌, ◌/◌, ◌%◌, ◌^◌, ◌<◌, ◌≤◌, ◌⊎◌, ◌↔◌, Option, Some, None, arith, inl, inr, max, mul_comm}
 use Rattle.std.specs.Int.{bit_at, trailing_zeros, w16}
 use Rattle.std.specs.Int.Count.{ones, ones-ones}
 use Rattle.std.proofs.lemmas.Bool.{cases_eq}
@@ -8,7 +8,7 @@ use Rattle.std.proofs.lemmas.Nat.Bits.{bit_at-trailing_zeros, bit_at-zero, bit_a
 use Rattle.std.proofs.Math.Nat.{div-add-mod, div-lt_iff_lt-mul, mod-lt, pow-succ'}
 use Rattle.ib_cells.specs.Cells.{TablesOf}
 use Rattle.ib_counts.specs.Counts.{hop_for}
-use Rattle.ib_counts.specs.Steps.{place_of}
+use Rattle.ib_counts.specs.Steps.{place_of, unowned_of}
 use Rattle.ib_counts.proofs.PlaceLemmas.{end_port, one_place}
 use Rattle.ib_lane_counts.specs.declared.counts.LaneCounts.{LaneCounts}
 use Rattle.ib_lane_counts.specs.Gone.{IsGoneFrom}
@@ -20,12 +20,13 @@ use Rattle.ib_lane_routes.specs.declared.hop.LaneOutcome.TheVariants.{Arrives}
 use Rattle.ib_lane_routes.specs.LaneRoutes.{begin_of}
 use Rattle.ib_net.specs.declared.node.EndPort.{EndPort}
 use Rattle.ib_net.specs.declared.node.Spot.{Spot}
-use Rattle.ib_net.specs.Fabric.{FabricOf}
+use Rattle.ib_net.specs.Fabric.{FabricOf, owner_of}
 use Rattle.ib_routes.specs.Counting.{IsCountOf}
 use Rattle.ib_routes.specs.declared.hop.Outcome.TheVariants as end
 use Rattle.ib_routes.specs.declared.traffic.Traffic.{Traffic}
 use Rattle.ib_routes.specs.Routes.{EndsAs, Sends}
 use Rattle.ib_routes.proofs.CountLemmas.{count_image, count_more, count_none, count_same}
+use Rattle.ib_routes.proofs.StartLemmas.{sender_is}
 use Rattle.ib_rows.specs.Lanes.{LanesOf}
 use Rattle.ib_rows.specs.PathLevels.{HasLevel, LevelsOf}
 
@@ -76,9 +77,9 @@ count_levels (suc k) n small =
 abbrev pub route_with : ℕ → EndPort → ℕ → LaneRoute
 route_with lid source level = record { lid = lid; source = source; level = level }
 
-module _ (fabric : FabricOf) (traffic : Traffic) (levels : LevelsOf) (lid : ℕ) (source : EndPort) where
+module _ (fabric : FabricOf) (tables : TablesOf) (traffic : Traffic) (levels : LevelsOf) (lid : ℕ) (source : EndPort) where
   abbrev pub IsOfPair : LaneRoute → Type 0
-  IsOfPair route = IsLaneRouteOf fabric traffic levels route × (route.lid ≡ lid) × (route.source ≡ source)
+  IsOfPair route = IsLaneRouteOf fabric tables traffic levels route × (route.lid ≡ lid) × (route.source ≡ source)
 
   pub is_route : (route : LaneRoute) → IsOfPair route → route_with lid source route.level ≡ route
   is_route route (is, here, from) =
@@ -86,28 +87,35 @@ module _ (fabric : FabricOf) (traffic : Traffic) (levels : LevelsOf) (lid : ℕ)
       let by_source : EndPort → LaneRoute = λ s. record { lid = route.lid; source = s; level = route.level } in
       ap by_lid (sym here) ∙ ap by_source (sym from)
 
+  -- those to a LID that nobody owns
+  pub pair_unowned : (owner : Option EndPort) → owner_of fabric lid ≡ owner → (count : ℕ) → IsCountOf IsOfPair count → IsCountOf (λ route. IsOfPair route × (owner_of fabric route.lid ≡ None)) (unowned_of owner count)
+  pair_unowned None nobody count is = count_same LaneRoute IsOfPair (λ route. IsOfPair route × (owner_of fabric route.lid ≡ None)) count
+      (λ route one. (one, ap (owner_of fabric) one.1 ∙ nobody)) (λ route one. one.0) is
+  pair_unowned (Some who) owns count is = count_none LaneRoute (λ route. IsOfPair route × (owner_of fabric route.lid ≡ None))
+      (λ route one. absurd (let nobody : owner_of fabric lid ≡ None = sym (ap (owner_of fabric) one.0.1) ∙ one.1 in cc))
+
   module _ (told : ℕ) (same : levels source lid ≡ told) where
     pub has_bit : (route : LaneRoute) → IsOfPair route → bit_at told route.level ≡ 1
     has_bit route (is, here, from) =
         let word : levels route.source route.lid ≡ told = ap (λ (s : EndPort). levels s route.lid) from ∙ ap (λ (l : ℕ). levels source l) here ∙ same in
         ap (λ (n : ℕ). bit_at n route.level) (sym word) ∙ is.has.1
 
-    pub new_route : Sends fabric traffic lid source → (level : ℕ) → level < 16 → bit_at told level ≡ 1 → IsOfPair (route_with lid source level)
+    pub new_route : Sends fabric tables traffic lid source → (level : ℕ) → level < 16 → bit_at told level ≡ 1 → IsOfPair (route_with lid source level)
     new_route sends level low bit = (record { sends = sends; has = (low, ap (λ (n : ℕ). bit_at n level) same ∙ bit) }, refl, refl)
 
     -- are as many as its levels
-    pub count_pair : Sends fabric traffic lid source → told < 2 ^ 16 → IsCountOf IsOfPair (ones told)
+    pub count_pair : Sends fabric tables traffic lid source → told < 2 ^ 16 → IsCountOf IsOfPair (ones told)
     count_pair sends small = count_image ℕ LaneRoute (route_with lid source) (IsSet 16 told) IsOfPair (ones told)
         (λ level set. new_route sends level set.0 set.1)
         (λ route one. (route.level, (one.0.has.0, has_bit route one), is_route route one))
         (λ one other e. ap (λ (r : LaneRoute). r.level) e) (count_levels 16 told small)
 
-module _ (fabric : FabricOf) (tables : TablesOf) (lanes : LanesOf) (traffic : Traffic) (levels : LevelsOf) (lid : ℕ) (source : EndPort) (told : ℕ) (same : levels source lid ≡ told) (sends : Sends fabric traffic lid source) (start : Spot) (begins : begin_of fabric source ≡ Some start) (switches : ℕ) (ends : EndsAs (hop_for fabric tables lid) start.switch (end.Arrives switches)) (kept : (level : ℕ) → bit_at told level ≡ 1 → IsGoneFrom fabric tables lanes lid start level → ⊥) where
+module _ (fabric : FabricOf) (tables : TablesOf) (lanes : LanesOf) (traffic : Traffic) (levels : LevelsOf) (lid : ℕ) (source : EndPort) (told : ℕ) (same : levels source lid ≡ told) (sends : Sends fabric tables traffic lid source) (start : Spot) (begins : begin_of fabric source ≡ Some start) (switches : ℕ) (ends : EndsAs (hop_for fabric tables lid) start.switch (end.Arrives switches)) (kept : (level : ℕ) → bit_at told level ≡ 1 → IsGoneFrom fabric tables lanes lid start level → ⊥) where
   abbrev IsNew : LaneRoute → Type 0
-  IsNew = IsOfPair fabric traffic levels lid source
+  IsNew = IsOfPair fabric tables traffic levels lid source
 
   abbrev Until : ℕ → LaneRoute → Type 0
-  Until = IsUntil fabric traffic levels lid (place_of fabric source)
+  Until = IsUntil fabric tables traffic levels lid (place_of fabric source)
 
   to : (route : LaneRoute) → Until 0 route → Until 16 route
   to route (is, inl less) = (is, inl less)
@@ -120,7 +128,7 @@ module _ (fabric : FabricOf) (tables : TablesOf) (lanes : LanesOf) (traffic : Tr
   back : (route : LaneRoute) → Until 16 route → Until 0 route ⊎ IsNew route
   back route (is, inl less) = inl (is, inl less)
   back route (is, inr (here, inl before)) = inl (is, inr (here, inl before))
-  back route (is, inr (here, inr (at, low))) = inr (is, here, one_place fabric route.source source (end_port fabric traffic route.source is.sends.is_source) (end_port fabric traffic source sends.is_source) at)
+  back route (is, inr (here, inr (at, low))) = inr (is, here, one_place fabric route.source source (end_port fabric traffic route.source (sender_is fabric tables traffic route.lid route.source is.sends)) (end_port fabric traffic source (sender_is fabric tables traffic lid source sends)) at)
 
   apart : (route : LaneRoute) → Until 0 route → IsNew route → ⊥
   apart route (is, inl less) (new, here, from) = absurd (omega arith)
@@ -134,10 +142,11 @@ module _ (fabric : FabricOf) (tables : TablesOf) (lanes : LanesOf) (traffic : Tr
     ends = ends_on_lanes fabric tables lanes level lid start (λ gone. kept level bit (low, gone)) (end.Arrives switches) ends;
   }
 
-  pub all_levels : told < 2 ^ 16 → told ≢ 0 → (counts : LaneCounts) → AreCountsOf fabric tables lanes (Until 0) counts → AreCountsOf fabric tables lanes (Until 16) (record { routes = counts.routes + ones told; arrived = counts.arrived + ones told; hops = max counts.hops switches; lost = counts.lost; silent = counts.silent })
+  pub all_levels : told < 2 ^ 16 → told ≢ 0 → (counts : LaneCounts) → AreCountsOf fabric tables lanes (Until 0) counts → AreCountsOf fabric tables lanes (Until 16) (record { routes = counts.routes + ones told; arrived = counts.arrived + ones told; unowned = counts.unowned + unowned_of (owner_of fabric lid) (ones told); hops = max counts.hops switches; lost = counts.lost; silent = counts.silent })
   all_levels small some counts are =
       let low = bit_at-trailing_zeros w16 told (omega arith) small in
       counts_all_arrive fabric tables lanes (Until 0) IsNew (Until 16) to add back apart switches
-      (λ route new. (switches, subst (λ (r : LaneRoute). LaneRouteEnds fabric tables lanes r (Arrives switches)) (is_route fabric traffic levels lid source route new) (arrives route.level new.0.has.0 (has_bit fabric traffic levels lid source told same route new)), omega arith))
-      (λ not_none. (route_with lid source (trailing_zeros w16 told), new_route fabric traffic levels lid source told same sends (trailing_zeros w16 told) low.0 low.1, arrives (trailing_zeros w16 told) low.0 low.1))
-      counts (ones told) (max counts.hops switches) refl (count_pair fabric traffic levels lid source told same sends small) are
+      (λ route new. (switches, subst (λ (r : LaneRoute). LaneRouteEnds fabric tables lanes r (Arrives switches)) (is_route fabric tables traffic levels lid source route new) (arrives route.level new.0.has.0 (has_bit fabric tables traffic levels lid source told same route new)), omega arith))
+      (λ not_none. (route_with lid source (trailing_zeros w16 told), new_route fabric tables traffic levels lid source told same sends (trailing_zeros w16 told) low.0 low.1, arrives (trailing_zeros w16 told) low.0 low.1))
+      counts (ones told) (unowned_of (owner_of fabric lid) (ones told)) (max counts.hops switches) refl (count_pair fabric tables traffic levels lid source told same sends small)
+      (pair_unowned fabric tables traffic levels lid source (owner_of fabric lid) refl (ones told) (count_pair fabric tables traffic levels lid source told same sends small)) are

@@ -3,17 +3,18 @@ use Rattle.std.proofs.Common.{◌≡◌, ◌≢◌, ◌∙◌, sym, ap, refl, su
 use Rattle.std.specs.Prelude.{MatchOption}
 use Rattle.std.proofs.lemmas.Bool.{cases_lt}
 use Rattle.ib_cells.specs.Cells.{TablesOf}
+use Rattle.ib_counts.specs.Steps.{unowned_of}
 use Rattle.ib_lane_counts.specs.declared.counts.LaneCounts.{LaneCounts}
 use Rattle.ib_lane_counts.specs.declared.counts.LaneLoss.{LaneLoss}
 use Rattle.ib_lane_counts.specs.declared.counts.LaneLosses.{LaneLosses}
 use Rattle.ib_lane_counts.specs.declared.counts.LostLaneRoute.{LostLaneRoute}
-use Rattle.ib_lane_counts.specs.LaneCounts.{AreCountsOf, AreLosses, AreMostHops, IsLeastLost, IsLoss, IsOneThat, IsOneThatArrives, LaneRoute, LaneRouteEnds, LaneRouteIsLost, lane_route_of, lane_sum_of}
+use Rattle.ib_lane_counts.specs.LaneCounts.{AreCountsOf, AreLosses, AreMostHops, IsLeastLost, IsLoss, IsOneThat, IsOneThatArrives, IsOneToNobody, LaneRoute, LaneRouteEnds, LaneRouteIsLost, lane_route_of, lane_sum_of}
 use Rattle.ib_lane_counts.specs.Steps.{IsLesser}
 use Rattle.ib_lane_counts.proofs.EndLemmas.{one_outcome}
 use Rattle.ib_lane_routes.specs.declared.hop.LaneOutcome.{LaneOutcome}
 use Rattle.ib_lane_routes.specs.declared.hop.LaneOutcome.TheVariants.{Arrives, Stops, Discards, Loops}
 use Rattle.ib_net.specs.declared.node.EndPort.{EndPort}
-use Rattle.ib_net.specs.Fabric.{FabricOf, guid_of}
+use Rattle.ib_net.specs.Fabric.{FabricOf, guid_of, owner_of}
 use Rattle.ib_routes.specs.Counting.{IsCountOf}
 use Rattle.ib_routes.specs.declared.hop.Cause.TheVariants.{Missing, Dead, Wrong}
 use Rattle.ib_routes.proofs.CountLemmas.{count_more, count_none, count_same, count_sum}
@@ -29,6 +30,7 @@ no_loss fabric tables lanes Is none outcome = record {
 pub no_counts : (fabric : FabricOf) (tables : TablesOf) (lanes : LanesOf) (Is : LaneRoute → Type 0) → ((route : LaneRoute) → Is route → ⊥) → AreCountsOf fabric tables lanes Is (record {
   routes = 0;
   arrived = 0;
+  unowned = 0;
   hops = 0;
   lost = record {
     missing = record { count = 0; least = None };
@@ -42,6 +44,7 @@ pub no_counts : (fabric : FabricOf) (tables : TablesOf) (lanes : LanesOf) (Is : 
 no_counts fabric tables lanes Is none = record {
   routes = count_none LaneRoute Is none;
   arrived = count_none LaneRoute (IsOneThatArrives fabric tables lanes Is) (λ route one. none route one.1.0);
+  unowned = count_none LaneRoute (IsOneToNobody fabric tables lanes Is) (λ route one. none route one.0.1.0);
   hops = record {
     most = λ route switches one. absurd (none route one.0);
     some = λ not_none. absurd (not_none refl);
@@ -75,11 +78,18 @@ module _ (fabric : FabricOf) (tables : TablesOf) (lanes : LanesOf) (Is More : La
       least = least_same loss.least is.least;
     }
 
+  -- those to LIDs that nobody owns stay if none of these arrives more
+  pub unowned_same : (count : ℕ) → ((route : LaneRoute) → IsOneToNobody fabric tables lanes More route → Is route) → IsCountOf (IsOneToNobody fabric tables lanes Is) count → IsCountOf (IsOneToNobody fabric tables lanes More) count
+  unowned_same count old is = count_same LaneRoute (IsOneToNobody fabric tables lanes Is) (IsOneToNobody fabric tables lanes More) count
+      (λ route one. ((one.0.0, (to route one.0.1.0, one.0.1.1)), one.1))
+      (λ route one. ((one.0.0, (old route one, one.0.1.1)), one.1)) is
+
   -- the counts of the same routes
   pub counts_same : (counts : LaneCounts) → ((route : LaneRoute) → More route → Is route) → AreCountsOf fabric tables lanes Is counts → AreCountsOf fabric tables lanes More counts
   counts_same counts from are = record {
     routes = count_same LaneRoute Is More counts.routes to from are.routes;
     arrived = count_same LaneRoute (IsOneThatArrives fabric tables lanes Is) (IsOneThatArrives fabric tables lanes More) counts.arrived (λ route one. (one.0, (to route one.1.0, one.1.1))) (λ route one. (one.0, (from route one.1.0, one.1.1))) are.arrived;
+    unowned = unowned_same counts.unowned (λ route one. from route one.0.1.0) are.unowned;
     hops = record {
       most = λ route switches one. are.hops.most route switches (from route one.0, one.1);
       some = λ not_none. (let one = are.hops.some not_none in (one.0, (to one.0 one.1.0, one.1.1)));
@@ -199,6 +209,18 @@ module _ (fabric : FabricOf) (tables : TablesOf) (lanes : LanesOf) (Is More : La
         (λ route one. elim (back route one.1.0) [ inl old ↦ inl (one.0, (old, one.1.1)) | inr same ↦ inr same ])
         (switches, (is_new, subst (LaneRouteEnds fabric tables lanes new) is_outcome ends)) (λ one. fresh one.1.0) is
 
+    unowned_more : (owner : Option EndPort) → owner_of fabric lid ≡ owner → (switches count : ℕ) → outcome ≡ Arrives switches → IsCountOf (IsOneToNobody fabric tables lanes Is) count → IsCountOf (IsOneToNobody fabric tables lanes More) (count + unowned_of owner 1)
+    unowned_more None nobody switches count is_outcome is = count_more LaneRoute (IsOneToNobody fabric tables lanes Is) (IsOneToNobody fabric tables lanes More) new count
+        (λ route one. ((one.0.0, (to route one.0.1.0, one.0.1.1)), one.1))
+        (λ route one. elim (back route one.0.1.0) [ inl old ↦ inl ((one.0.0, (old, one.0.1.1)), one.1) | inr same ↦ inr same ])
+        ((switches, (is_new, subst (LaneRouteEnds fabric tables lanes new) is_outcome ends)), nobody)
+        (λ one. fresh one.0.1.0) is
+    unowned_more (Some who) owns switches count is_outcome is = subst (λ (n : ℕ). IsCountOf (IsOneToNobody fabric tables lanes More) n) (let e : count ≡ count + 0 = omega arith in e)
+        (unowned_same count (λ route one. elim (back route one.0.1.0) [
+          | inl old ↦ old
+          | inr same ↦ absurd (let nobody : owner_of fabric lid ≡ None = sym (ap (λ (r : LaneRoute). owner_of fabric r.lid) same) ∙ one.1 in cc)
+        ]) is)
+
     pub hops_more : (switches hops most : ℕ) → outcome ≡ Arrives switches → most ≡ max hops switches → AreMostHops fabric tables lanes Is hops → AreMostHops fabric tables lanes More most
     hops_more switches hops most is_outcome is_most are = record {
       most = λ route others one. elim (back route one.0) [
@@ -232,10 +254,11 @@ module _ (fabric : FabricOf) (tables : TablesOf) (lanes : LanesOf) (Is More : La
     }
 
     -- all counts
-    pub counts_arrive : (switches most : ℕ) (counts : LaneCounts) → outcome ≡ Arrives switches → most ≡ max counts.hops switches → AreCountsOf fabric tables lanes Is counts → AreCountsOf fabric tables lanes More (record { routes = counts.routes + 1; arrived = counts.arrived + 1; hops = most; lost = counts.lost; silent = counts.silent })
+    pub counts_arrive : (switches most : ℕ) (counts : LaneCounts) → outcome ≡ Arrives switches → most ≡ max counts.hops switches → AreCountsOf fabric tables lanes Is counts → AreCountsOf fabric tables lanes More (record { routes = counts.routes + 1; arrived = counts.arrived + 1; unowned = counts.unowned + unowned_of (owner_of fabric lid) 1; hops = most; lost = counts.lost; silent = counts.silent })
     counts_arrive switches most counts is_outcome is_most are = record {
       routes = routes_more counts.routes are.routes;
       arrived = arrived_more switches counts.arrived is_outcome are.arrived;
+      unowned = unowned_more (owner_of fabric lid) refl switches counts.unowned is_outcome are.unowned;
       hops = hops_more switches counts.hops most is_outcome is_most are.hops;
       lost = record {
         missing = other_loss (Stops Missing) counts.lost.missing (λ e. (let f = e ∙ is_outcome in absurd (cc))) are.lost.missing;
@@ -247,10 +270,11 @@ module _ (fabric : FabricOf) (tables : TablesOf) (lanes : LanesOf) (Is More : La
       all = (let all = are.all in omega arith);
     }
 
-    pub counts_lost : (counts : LaneCounts) (lost : LaneLosses) → ((switches : ℕ) → Arrives switches ≢ outcome) → lane_sum_of lost ≡ lane_sum_of counts.lost + 1 → AreLosses fabric tables lanes More lost → AreCountsOf fabric tables lanes Is counts → AreCountsOf fabric tables lanes More (record { routes = counts.routes + 1; arrived = counts.arrived; hops = counts.hops; lost = lost; silent = counts.silent })
+    pub counts_lost : (counts : LaneCounts) (lost : LaneLosses) → ((switches : ℕ) → Arrives switches ≢ outcome) → lane_sum_of lost ≡ lane_sum_of counts.lost + 1 → AreLosses fabric tables lanes More lost → AreCountsOf fabric tables lanes Is counts → AreCountsOf fabric tables lanes More (record { routes = counts.routes + 1; arrived = counts.arrived; unowned = counts.unowned; hops = counts.hops; lost = lost; silent = counts.silent })
     counts_lost counts lost differs sum losses are = record {
       routes = routes_more counts.routes are.routes;
       arrived = arrived_same counts.arrived differs are.arrived;
+      unowned = unowned_same counts.unowned (λ route one. not_new (Arrives one.0.0) (differs one.0.0) route one.0.1) are.unowned;
       hops = hops_same counts.hops differs are.hops;
       lost = losses;
       all = (let all = are.all in omega arith);
@@ -294,10 +318,18 @@ module _ (fabric : FabricOf) (tables : TablesOf) (lanes : LanesOf) (Is New More 
     ];
   }
 
-  pub counts_all_arrive : (counts : LaneCounts) (routes most : ℕ) → most ≡ max counts.hops hops → IsCountOf New routes → AreCountsOf fabric tables lanes Is counts → AreCountsOf fabric tables lanes More (record { routes = counts.routes + routes; arrived = counts.arrived + routes; hops = most; lost = counts.lost; silent = counts.silent })
-  counts_all_arrive counts routes most is_most new are = record {
+  all_unowned : (m n : ℕ) → IsCountOf (IsOneToNobody fabric tables lanes Is) m → IsCountOf (λ route. New route × (owner_of fabric route.lid ≡ None)) n → IsCountOf (IsOneToNobody fabric tables lanes More) (m + n)
+  all_unowned m n is new = count_sum LaneRoute (IsOneToNobody fabric tables lanes Is) (λ route. New route × (owner_of fabric route.lid ≡ None)) (IsOneToNobody fabric tables lanes More) m n
+      (λ route one. ((one.0.0, (to route one.0.1.0, one.0.1.1)), one.1))
+      (λ route one. (let arrives = all route one.0 in ((arrives.0, (add route one.0, arrives.1)), one.1)))
+      (λ route one. elim (back route one.0.1.0) [ inl old ↦ inl ((one.0.0, (old, one.0.1.1)), one.1) | inr now ↦ inr (now, one.1) ])
+      (λ route one now. apart route one.0.1.0 now.0) is new
+
+  pub counts_all_arrive : (counts : LaneCounts) (routes unowned most : ℕ) → most ≡ max counts.hops hops → IsCountOf New routes → IsCountOf (λ route. New route × (owner_of fabric route.lid ≡ None)) unowned → AreCountsOf fabric tables lanes Is counts → AreCountsOf fabric tables lanes More (record { routes = counts.routes + routes; arrived = counts.arrived + routes; unowned = counts.unowned + unowned; hops = most; lost = counts.lost; silent = counts.silent })
+  counts_all_arrive counts routes unowned most is_most new nobody are = record {
     routes = count_sum LaneRoute Is New More counts.routes routes to add back apart are.routes new;
     arrived = all_arrived counts.arrived routes are.arrived new;
+    unowned = all_unowned counts.unowned unowned are.unowned nobody;
     hops = all_hops counts.hops most is_most are.hops;
     lost = record {
       missing = loss_same fabric tables lanes Is More to (Stops Missing) (no_new (Stops Missing) (λ s e. absurd (cc))) counts.lost.missing are.lost.missing;

@@ -5,7 +5,7 @@ use Rattle.std.proofs.lemmas.Bool.{cases_lt}
 use Rattle.std.proofs.lemmas.Nat.Bits.{bit_at-trailing_zeros, bit_at-zero}
 use Rattle.ib_cells.specs.Cells.{TablesOf}
 use Rattle.ib_counts.specs.Counts.{Route}
-use Rattle.ib_counts.specs.Steps.{IsEndPort, place_of}
+use Rattle.ib_counts.specs.Steps.{IsEndPort, place_of, unowned_of}
 use Rattle.ib_counts.proofs.PlaceLemmas.{end_port}
 use Rattle.ib_lane_counts.specs.declared.counts.LaneCounts.{LaneCounts}
 use Rattle.ib_lane_counts.specs.declared.counts.LaneLoss.{LaneLoss}
@@ -20,12 +20,13 @@ use Rattle.ib_lane_routes.specs.declared.hop.LaneOutcome.TheVariants.{Arrives, S
 use Rattle.ib_lane_routes.specs.LaneRoutes.{LaneEndsAs, LaneSends, begin_of, lane_hop}
 use Rattle.ib_net.specs.declared.node.EndPort.{EndPort}
 use Rattle.ib_net.specs.declared.node.Spot.{Spot}
-use Rattle.ib_net.specs.Fabric.{FabricOf, guid_of, switch_count}
+use Rattle.ib_net.specs.Fabric.{FabricOf, guid_of, owner_of, switch_count}
 use Rattle.ib_routes.specs.Counting.{IsCountOf}
 use Rattle.ib_routes.specs.declared.hop.Cause.TheVariants.{Missing, Dead, Wrong}
 use Rattle.ib_routes.specs.declared.traffic.Traffic.{Traffic}
 use Rattle.ib_routes.specs.Routes.{Sends}
 use Rattle.ib_routes.proofs.CountLemmas.{count_more, count_none, count_same}
+use Rattle.ib_routes.proofs.StartLemmas.{sender_is}
 use Rattle.ib_rows.specs.Lanes.{LanesOf}
 use Rattle.ib_rows.specs.PathLevels.{HasLevel, LevelsOf}
 
@@ -49,30 +50,30 @@ not_arrived Discards none = tt
 not_arrived Loops none = tt
 
 -- one route more
-module _ (fabric : FabricOf) (tables : TablesOf) (lanes : LanesOf) (traffic : Traffic) (levels : LevelsOf) (lid : ℕ) (source : EndPort) (level : ℕ) (sends : LaneSends fabric traffic levels lid source level) (start : Spot) (begins : begin_of fabric source ≡ Some start) (outcome : LaneOutcome) (ends : LaneEndsAs (lane_hop fabric tables lanes level lid) start outcome) where
+module _ (fabric : FabricOf) (tables : TablesOf) (lanes : LanesOf) (traffic : Traffic) (levels : LevelsOf) (lid : ℕ) (source : EndPort) (level : ℕ) (sends : LaneSends fabric tables traffic levels lid source level) (start : Spot) (begins : begin_of fabric source ≡ Some start) (outcome : LaneOutcome) (ends : LaneEndsAs (lane_hop fabric tables lanes level lid) start outcome) where
   abbrev pub Before : LaneRoute → Type 0
-  Before = IsUntil fabric traffic levels lid (place_of fabric source) level
+  Before = IsUntil fabric tables traffic levels lid (place_of fabric source) level
 
   abbrev pub With : LaneRoute → Type 0
-  With = IsUntil fabric traffic levels lid (place_of fabric source) (level + 1)
+  With = IsUntil fabric tables traffic levels lid (place_of fabric source) (level + 1)
 
   to : (route : LaneRoute) → Before route → With route
-  to = until_to fabric traffic levels lid (place_of fabric source) level
+  to = until_to fabric tables traffic levels lid (place_of fabric source) level
 
   back : (route : LaneRoute) → With route → Before route ⊎ (route ≡ record { lid = lid; source = source; level = level })
-  back = until_from fabric traffic levels lid level source (end_port fabric traffic source sends.sends.is_source)
+  back = until_from fabric tables traffic levels lid level source (end_port fabric traffic source (sender_is fabric tables traffic lid source sends.sends))
 
   is_new : With (record { lid = lid; source = source; level = level })
   is_new = (sends, inr (refl, inr (refl, omega arith)))
 
   fresh : Before (record { lid = lid; source = source; level = level }) → ⊥
-  fresh = until_fresh fabric traffic levels lid source level
+  fresh = until_fresh fabric tables traffic levels lid source level
 
   late : (route : LaneRoute) → Before route → route.lid ≤ lid
-  late = until_late fabric traffic levels lid (place_of fabric source) level
+  late = until_late fabric tables traffic levels lid (place_of fabric source) level
 
   lower : (route : LaneRoute) → Before route → route.lid ≡ lid → route.source ≡ source → route.level ≤ level
-  lower = until_low fabric traffic levels lid source level
+  lower = until_low fabric tables traffic levels lid source level
 
   route_ends : LaneRouteEnds fabric tables lanes (record { lid = lid; source = source; level = level }) outcome
   route_ends = record { start = start; begins = begins; ends = ends }
@@ -138,23 +139,24 @@ module _ (fabric : FabricOf) (tables : TablesOf) (lanes : LanesOf) (traffic : Tr
       looping = by_cause Loops lost.looping loss is more are.looping;
     }
 
-  pub one_arrives : (switches most : ℕ) (counts : LaneCounts) → outcome ≡ Arrives switches → most ≡ max counts.hops switches → AreCountsOf fabric tables lanes Before counts → AreCountsOf fabric tables lanes With (record { routes = counts.routes + 1; arrived = counts.arrived + 1; hops = most; lost = counts.lost; silent = counts.silent })
+  pub one_arrives : (switches most : ℕ) (counts : LaneCounts) → outcome ≡ Arrives switches → most ≡ max counts.hops switches → AreCountsOf fabric tables lanes Before counts → AreCountsOf fabric tables lanes With (record { routes = counts.routes + 1; arrived = counts.arrived + 1; unowned = counts.unowned + unowned_of (owner_of fabric lid) 1; hops = most; lost = counts.lost; silent = counts.silent })
   one_arrives switches most counts is is_most are = counts_arrive fabric tables lanes Before With to lid source level back is_new fresh late lower outcome route_ends switches most counts is is_most are
 
-  pub one_lost : (counts : LaneCounts) (lost : LaneLosses) → ((switches : ℕ) → Arrives switches ≢ outcome) → lane_sum_of lost ≡ lane_sum_of counts.lost + 1 → AreLosses fabric tables lanes With lost → AreCountsOf fabric tables lanes Before counts → AreCountsOf fabric tables lanes With (record { routes = counts.routes + 1; arrived = counts.arrived; hops = counts.hops; lost = lost; silent = counts.silent })
+  pub one_lost : (counts : LaneCounts) (lost : LaneLosses) → ((switches : ℕ) → Arrives switches ≢ outcome) → lane_sum_of lost ≡ lane_sum_of counts.lost + 1 → AreLosses fabric tables lanes With lost → AreCountsOf fabric tables lanes Before counts → AreCountsOf fabric tables lanes With (record { routes = counts.routes + 1; arrived = counts.arrived; unowned = counts.unowned; hops = counts.hops; lost = lost; silent = counts.silent })
   one_lost counts lost differs sum losses are = counts_lost fabric tables lanes Before With to lid source level back is_new fresh late lower outcome route_ends counts lost differs sum losses are
 
 -- level by level, end port by end port and LID by LID
 module _ (fabric : FabricOf) (tables : TablesOf) (lanes : LanesOf) (traffic : Traffic) (levels : LevelsOf) where
   abbrev Until : ℕ → ℕ → ℕ → LaneRoute → Type 0
-  Until = IsUntil fabric traffic levels
+  Until = IsUntil fabric tables traffic levels
 
   abbrev Silent : ℕ → ℕ → Route → Type 0
-  Silent = IsSilentUntil fabric traffic levels
+  Silent = IsSilentUntil fabric tables traffic levels
 
   pub first_counts : AreCountsUntil fabric tables lanes traffic levels 0 0 0 (record {
     routes = 0;
     arrived = 0;
+    unowned = 0;
     hops = 0;
     lost = record {
       missing = record { count = 0; least = None };
@@ -167,82 +169,88 @@ module _ (fabric : FabricOf) (tables : TablesOf) (lanes : LanesOf) (traffic : Tr
   })
   first_counts =
       record {
-        exact = no_counts fabric tables lanes (Until 0 0 0) (until_none fabric traffic levels);
-        silent = count_none Route (Silent 0 0) (silent_none fabric traffic levels);
+        exact = no_counts fabric tables lanes (Until 0 0 0) (until_none fabric tables traffic levels);
+        silent = count_none Route (Silent 0 0) (silent_none fabric tables traffic levels);
         few = omega arith;
         few_silent = omega arith;
+        few_unowned = omega arith;
       }
 
   -- the pairs without a level are apart
   pub counts_beside : (Is : LaneRoute → Type 0) (counts : LaneCounts) (silent : ℕ) → AreCountsOf fabric tables lanes Is counts → AreCountsOf fabric tables lanes Is (record counts { silent = silent })
-  counts_beside Is counts silent are = record { routes = are.routes; arrived = are.arrived; hops = are.hops; lost = are.lost; all = are.all }
+  counts_beside Is counts silent are = record { routes = are.routes; arrived = are.arrived; unowned = are.unowned; hops = are.hops; lost = are.lost; all = are.all }
 
   module _ (lid : ℕ) (counts : LaneCounts) where
     -- a level that an end port does not have
     pub without_counts : (source : EndPort) (level : ℕ) → IsEndPort fabric source → (HasLevel levels source lid level → ⊥) → AreCountsOf fabric tables lanes (Until lid (place_of fabric source) level) counts → AreCountsOf fabric tables lanes (Until lid (place_of fabric source) (level + 1)) counts
-    without_counts source level is none are = counts_same fabric tables lanes (Until lid (place_of fabric source) level) (Until lid (place_of fabric source) (level + 1)) (until_to fabric traffic levels lid (place_of fabric source) level) counts
-        (until_without fabric traffic levels lid level source is none) are
+    without_counts source level is none are = counts_same fabric tables lanes (Until lid (place_of fabric source) level) (Until lid (place_of fabric source) (level + 1)) (until_to fabric tables traffic levels lid (place_of fabric source) level) counts
+        (until_without fabric tables traffic levels lid level source is none) are
 
     -- an end port that does not send
-    pub silent_counts : (source : EndPort) → IsEndPort fabric source → (Sends fabric traffic lid source → ⊥) → AreCountsUntil fabric tables lanes traffic levels lid (place_of fabric source) 0 counts → AreCountsUntil fabric tables lanes traffic levels lid (place_of fabric source + 1) 0 counts
+    pub silent_counts : (source : EndPort) → IsEndPort fabric source → (Sends fabric tables traffic lid source → ⊥) → AreCountsUntil fabric tables lanes traffic levels lid (place_of fabric source) 0 counts → AreCountsUntil fabric tables lanes traffic levels lid (place_of fabric source + 1) 0 counts
     silent_counts source is none are = record {
-      exact = counts_same fabric tables lanes (Until lid (place_of fabric source) 0) (Until lid (place_of fabric source + 1) 0) (until_past fabric traffic levels lid (place_of fabric source) 0) counts
-          (until_silent fabric traffic levels lid source is (λ level sends. none sends.sends)) are.exact;
-      silent = count_same Route (Silent lid (place_of fabric source)) (Silent lid (place_of fabric source + 1)) counts.silent (silent_to fabric traffic levels lid (place_of fabric source))
-          (silent_less fabric traffic levels lid source is (λ silent. none silent.sends)) are.silent;
+      exact = counts_same fabric tables lanes (Until lid (place_of fabric source) 0) (Until lid (place_of fabric source + 1) 0) (until_past fabric tables traffic levels lid (place_of fabric source) 0) counts
+          (until_silent fabric tables traffic levels lid source is (λ level sends. none sends.sends)) are.exact;
+      silent = count_same Route (Silent lid (place_of fabric source)) (Silent lid (place_of fabric source + 1)) counts.silent (silent_to fabric tables traffic levels lid (place_of fabric source))
+          (silent_less fabric tables traffic levels lid source is (λ silent. none silent.sends)) are.silent;
       few = (let few = are.few in omega arith);
       few_silent = (let few = are.few_silent in omega arith);
+      few_unowned = are.few_unowned;
     }
 
     -- one that has no level
-    pub mute_counts : (source : EndPort) → IsEndPort fabric source → Sends fabric traffic lid source → levels source lid ≡ 0 → AreCountsUntil fabric tables lanes traffic levels lid (place_of fabric source) 0 counts → AreCountsUntil fabric tables lanes traffic levels lid (place_of fabric source + 1) 0 (record counts { silent = counts.silent + 1 })
+    pub mute_counts : (source : EndPort) → IsEndPort fabric source → Sends fabric tables traffic lid source → levels source lid ≡ 0 → AreCountsUntil fabric tables lanes traffic levels lid (place_of fabric source) 0 counts → AreCountsUntil fabric tables lanes traffic levels lid (place_of fabric source + 1) 0 (record counts { silent = counts.silent + 1 })
     mute_counts source is sends zero are =
         let none : (level : ℕ) → HasLevel levels source lid level → ⊥ = (λ level has. (let bit = has.1 in let no = ap (λ (n : ℕ). bit_at n level) zero ∙ bit_at-zero level in absurd (omega arith))) in
         record {
           exact = counts_beside (Until lid (place_of fabric source + 1) 0) counts (counts.silent + 1)
-              (counts_same fabric tables lanes (Until lid (place_of fabric source) 0) (Until lid (place_of fabric source + 1) 0) (until_past fabric traffic levels lid (place_of fabric source) 0) counts
-              (until_silent fabric traffic levels lid source is (λ level sent. none level sent.has)) are.exact);
-          silent = count_more Route (Silent lid (place_of fabric source)) (Silent lid (place_of fabric source + 1)) (record { lid = lid; source = source }) counts.silent (silent_to fabric traffic levels lid (place_of fabric source))
-              (silent_from fabric traffic levels lid source is) (record { sends = sends; none = none }, inr (refl, omega arith)) (silent_fresh fabric traffic levels lid source) are.silent;
+              (counts_same fabric tables lanes (Until lid (place_of fabric source) 0) (Until lid (place_of fabric source + 1) 0) (until_past fabric tables traffic levels lid (place_of fabric source) 0) counts
+              (until_silent fabric tables traffic levels lid source is (λ level sent. none level sent.has)) are.exact);
+          silent = count_more Route (Silent lid (place_of fabric source)) (Silent lid (place_of fabric source + 1)) (record { lid = lid; source = source }) counts.silent (silent_to fabric tables traffic levels lid (place_of fabric source))
+              (silent_from fabric tables traffic levels lid source is) (record { sends = sends; none = none }, inr (refl, omega arith)) (silent_fresh fabric tables traffic levels lid source) are.silent;
           few = (let few = are.few in omega arith);
           few_silent = (let few = are.few_silent in omega arith);
+          few_unowned = are.few_unowned;
         }
 
     -- one with its levels
-    pub told_counts : (source : EndPort) (told : ℕ) (more : LaneCounts) → IsEndPort fabric source → levels source lid ≡ told → told ≢ 0 → told < 2 ^ 16 → more.silent ≡ counts.silent → more.routes ≤ counts.routes + 16 → AreCountsOf fabric tables lanes (Until lid (place_of fabric source) 16) more → AreCountsUntil fabric tables lanes traffic levels lid (place_of fabric source) 0 counts → AreCountsUntil fabric tables lanes traffic levels lid (place_of fabric source + 1) 0 more
-    told_counts source told more is same some fits still few_more exact are =
+    pub told_counts : (source : EndPort) (told : ℕ) (more : LaneCounts) → IsEndPort fabric source → levels source lid ≡ told → told ≢ 0 → told < 2 ^ 16 → more.silent ≡ counts.silent → more.routes ≤ counts.routes + 16 → more.unowned ≤ more.arrived → AreCountsOf fabric tables lanes (Until lid (place_of fabric source) 16) more → AreCountsUntil fabric tables lanes traffic levels lid (place_of fabric source) 0 counts → AreCountsUntil fabric tables lanes traffic levels lid (place_of fabric source + 1) 0 more
+    told_counts source told more is same some fits still few_more few_nobody exact are =
         let low = bit_at-trailing_zeros w16 told (omega arith) fits in
         let has : HasLevel levels source lid (trailing_zeros w16 told) = (low.0, ap (λ (n : ℕ). bit_at n (trailing_zeros w16 told)) same ∙ low.1) in
         record {
-          exact = counts_same fabric tables lanes (Until lid (place_of fabric source) 16) (Until lid (place_of fabric source + 1) 0) (until_past fabric traffic levels lid (place_of fabric source) 16) more
-              (until_all_levels fabric traffic levels lid (place_of fabric source)) exact;
+          exact = counts_same fabric tables lanes (Until lid (place_of fabric source) 16) (Until lid (place_of fabric source + 1) 0) (until_past fabric tables traffic levels lid (place_of fabric source) 16) more
+              (until_all_levels fabric tables traffic levels lid (place_of fabric source)) exact;
           silent = subst (λ (n : ℕ). IsCountOf (Silent lid (place_of fabric source + 1)) n) (sym still)
-              (count_same Route (Silent lid (place_of fabric source)) (Silent lid (place_of fabric source + 1)) counts.silent (silent_to fabric traffic levels lid (place_of fabric source))
-              (silent_less fabric traffic levels lid source is (λ silent. silent.none (trailing_zeros w16 told) has)) are.silent);
+              (count_same Route (Silent lid (place_of fabric source)) (Silent lid (place_of fabric source + 1)) counts.silent (silent_to fabric tables traffic levels lid (place_of fabric source))
+              (silent_less fabric tables traffic levels lid source is (λ silent. silent.none (trailing_zeros w16 told) has)) are.silent);
           few = (let few = are.few in omega arith);
           few_silent = (let few = are.few_silent in omega arith);
+          few_unowned = few_nobody;
         }
 
     pub next_counts : (place : ℕ) → place ≡ length fabric.cables + switch_count fabric → place ≤ 2 ^ 17 → AreCountsUntil fabric tables lanes traffic levels lid place 0 counts → AreCountsUntil fabric tables lanes traffic levels (lid + 1) 0 0 counts
     next_counts place last low are = record {
-      exact = counts_same fabric tables lanes (Until lid place 0) (Until (lid + 1) 0 0) (until_next fabric traffic levels lid place) counts (until_all fabric traffic levels lid place last) are.exact;
-      silent = count_same Route (Silent lid place) (Silent (lid + 1) 0) counts.silent (silent_next fabric traffic levels lid place) (silent_all fabric traffic levels lid place last) are.silent;
+      exact = counts_same fabric tables lanes (Until lid place 0) (Until (lid + 1) 0 0) (until_next fabric tables traffic levels lid place) counts (until_all fabric tables traffic levels lid place last) are.exact;
+      silent = count_same Route (Silent lid place) (Silent (lid + 1) 0) counts.silent (silent_next fabric tables traffic levels lid place) (silent_all fabric tables traffic levels lid place last) are.silent;
       few = (let few = are.few in omega arith);
       few_silent = (let few = are.few_silent in omega arith);
+      few_unowned = are.few_unowned;
     }
 
-    pub unsent_counts : ((source : EndPort) → Sends fabric traffic lid source → ⊥) → AreCountsUntil fabric tables lanes traffic levels lid 0 0 counts → AreCountsUntil fabric tables lanes traffic levels (lid + 1) 0 0 counts
+    pub unsent_counts : ((source : EndPort) → Sends fabric tables traffic lid source → ⊥) → AreCountsUntil fabric tables lanes traffic levels lid 0 0 counts → AreCountsUntil fabric tables lanes traffic levels (lid + 1) 0 0 counts
     unsent_counts none are = record {
-      exact = counts_same fabric tables lanes (Until lid 0 0) (Until (lid + 1) 0 0) (until_next fabric traffic levels lid 0) counts (until_unsent fabric traffic levels lid none) are.exact;
-      silent = count_same Route (Silent lid 0) (Silent (lid + 1) 0) counts.silent (silent_next fabric traffic levels lid 0) (silent_unsent fabric traffic levels lid none) are.silent;
+      exact = counts_same fabric tables lanes (Until lid 0 0) (Until (lid + 1) 0 0) (until_next fabric tables traffic levels lid 0) counts (until_unsent fabric tables traffic levels lid none) are.exact;
+      silent = count_same Route (Silent lid 0) (Silent (lid + 1) 0) counts.silent (silent_next fabric tables traffic levels lid 0) (silent_unsent fabric tables traffic levels lid none) are.silent;
       few = (let few = are.few in omega arith);
       few_silent = (let few = are.few_silent in omega arith);
+      few_unowned = are.few_unowned;
     }
 
-    pub all_counts : length fabric.owners ≤ lid → AreCountsUntil fabric tables lanes traffic levels lid 0 0 counts → AreLaneCounts fabric tables lanes traffic levels counts
+    pub all_counts : ((other : ℕ) (source : EndPort) → Sends fabric tables traffic other source → other < lid) → AreCountsUntil fabric tables lanes traffic levels lid 0 0 counts → AreLaneCounts fabric tables lanes traffic levels counts
     all_counts last are = record {
-      of = counts_same fabric tables lanes (Until lid 0 0) (IsLaneRouteOf fabric traffic levels) (λ route is. is.0) counts (until_lids fabric traffic levels lid last) are.exact;
-      silent = count_same Route (Silent lid 0) (IsSilent fabric traffic levels) counts.silent (λ pair is. is.0) (silent_lids fabric traffic levels lid last) are.silent;
+      of = counts_same fabric tables lanes (Until lid 0 0) (IsLaneRouteOf fabric tables traffic levels) (λ route is. is.0) counts (until_lids fabric tables traffic levels lid last) are.exact;
+      silent = count_same Route (Silent lid 0) (IsSilent fabric tables traffic levels) counts.silent (λ pair is. is.0) (silent_lids fabric tables traffic levels lid last) are.silent;
     }
 
     pub few_lost : lid ≤ 2 ^ 17 → AreCountsUntil fabric tables lanes traffic levels lid 0 0 counts → lane_sum_of counts.lost < 2 ^ 64

@@ -8,7 +8,7 @@ use Rattle.ib_counts.specs.Counts.{AreCounts, IsOf, IsOneThatArrives, Route, Rou
 use Rattle.ib_counts.specs.declared.counts.Counts.{Counts}
 use Rattle.ib_lane_counts.specs.Keep.{IsKept}
 use Rattle.ib_lane_counts.specs.LaneCounts.{AreLaneCounts, IsLaneRouteOf, IsSilent, LaneRoute, LaneRouteEnds}
-use Rattle.ib_lane_counts.specs.Sums.{pair_of}
+use Rattle.ib_lane_counts.specs.Sums.{IsUnowned, pair_of}
 use Rattle.ib_lane_counts.proofs.KeptLemmas.{ends_on_one, ends_there}
 use Rattle.ib_lane_counts.proofs.ListLemmas.{as_many_are_all}
 use Rattle.ib_lane_counts.proofs.MoreLemmas.{counts_all_arrive, no_counts}
@@ -48,16 +48,16 @@ some_bit (suc count) n = elim (some_bit count n) [
   ]
 ]
 
-module _ (fabric : FabricOf) (fits : IsFabric fabric) (tables : TablesOf) (lanes : LanesOf) (traffic : Traffic) (levels : LevelsOf) (kept : IsKept fabric lanes 65535) (counts : Counts) (are : AreCounts fabric tables traffic counts) (all : counts.arrived ≡ counts.routes) (silent : IsCountOf (IsSilent fabric traffic levels) 0) where
+module _ (fabric : FabricOf) (fits : IsFabric fabric) (tables : TablesOf) (lanes : LanesOf) (traffic : Traffic) (levels : LevelsOf) (kept : IsKept fabric lanes 65535) (counts : Counts) (are : AreCounts fabric tables traffic counts) (all : counts.arrived ≡ counts.routes) (silent : IsCountOf (IsSilent fabric tables traffic levels) 0) where
   abbrev IsRoute : LaneRoute → Type 0
-  IsRoute = IsLaneRouteOf fabric traffic levels
+  IsRoute = IsLaneRouteOf fabric tables traffic levels
 
   used : (source : EndPort) (lid level : ℕ) → HasLevel levels source lid level → bit_at 65535 level ≡ 1
   used source lid level has = bit_at_ones 16 level has.0
 
-  pair_arrives : (pair : Route) → IsOf fabric traffic pair → IsOneThatArrives fabric tables (IsOf fabric traffic) pair
-  pair_arrives = as_many_are_all Route same_pair (IsOneThatArrives fabric tables (IsOf fabric traffic)) (IsOf fabric traffic) counts.routes (λ pair one. one.1.0)
-      (subst (λ (n : ℕ). IsCountOf (IsOneThatArrives fabric tables (IsOf fabric traffic)) n) all are.arrived) are.routes
+  pair_arrives : (pair : Route) → IsOf fabric tables traffic pair → IsOneThatArrives fabric tables (IsOf fabric tables traffic) pair
+  pair_arrives = as_many_are_all Route same_pair (IsOneThatArrives fabric tables (IsOf fabric tables traffic)) (IsOf fabric tables traffic) counts.routes (λ pair one. one.1.0)
+      (subst (λ (n : ℕ). IsCountOf (IsOneThatArrives fabric tables (IsOf fabric tables traffic)) n) all are.arrived) are.routes
 
   arrives : (route : LaneRoute) → IsRoute route → (switches : ℕ) × LaneRouteEnds fabric tables lanes route (Arrives switches) × (switches ≤ counts.hops)
   arrives route is =
@@ -65,7 +65,7 @@ module _ (fabric : FabricOf) (fits : IsFabric fabric) (tables : TablesOf) (lanes
       (one.0, ends_there fabric fits tables lanes traffic levels 65535 kept used (end.Arrives one.0) route is one.1.1, are.hops.most (pair_of route) one.0 one.1)
 
   -- some level of a pair
-  has_one : (pair : Route) → IsOf fabric traffic pair → (route : LaneRoute) × IsRoute route × (pair_of route ≡ pair)
+  has_one : (pair : Route) → IsOf fabric tables traffic pair → (route : LaneRoute) × IsRoute route × (pair_of route ≡ pair)
   has_one pair sends = elim (some_bit 16 (levels pair.source pair.lid)) [
     | inl (level, low, bit) ↦ (record { lid = pair.lid; source = pair.source; level = level }, record { sends = sends; has = (low, bit) }, refl)
     | inr not ↦ absurd (
@@ -81,9 +81,10 @@ module _ (fabric : FabricOf) (fits : IsFabric fabric) (tables : TablesOf) (lanes
       let (route, is, same) = has_one pair one.0 in
       (route, is, ends_there fabric fits tables lanes traffic levels 65535 kept used (end.Arrives counts.hops) route is (subst (λ (p : Route). RouteEnds fabric tables p (end.Arrives counts.hops)) (sym same) one.1))
 
-  pub counts_told : (routes : ℕ) → IsCountOf IsRoute routes → AreLaneCounts fabric tables lanes traffic levels (record {
+  pub counts_told : (routes unowned : ℕ) → IsCountOf IsRoute routes → IsCountOf (IsUnowned fabric tables traffic levels) unowned → AreLaneCounts fabric tables lanes traffic levels (record {
     routes = 0 + routes;
     arrived = 0 + routes;
+    unowned = 0 + unowned;
     hops = max 0 counts.hops;
     lost = record {
       missing = record { count = 0; least = None };
@@ -94,12 +95,13 @@ module _ (fabric : FabricOf) (fits : IsFabric fabric) (tables : TablesOf) (lanes
     };
     silent = 0;
   })
-  counts_told routes is = record {
+  counts_told routes unowned is nobody = record {
     of = counts_all_arrive fabric tables lanes (λ (route : LaneRoute). ⊥) IsRoute IsRoute (λ route one. absurd one) (λ route one. one) (λ route one. inr one) (λ route one other. one)
         counts.hops arrives longest
         (record {
           routes = 0;
           arrived = 0;
+          unowned = 0;
           hops = 0;
           lost = record {
             missing = record { count = 0; least = None };
@@ -109,6 +111,6 @@ module _ (fabric : FabricOf) (fits : IsFabric fabric) (tables : TablesOf) (lanes
             looping = record { count = 0; least = None };
           };
           silent = 0;
-        }) routes (max 0 counts.hops) refl is (no_counts fabric tables lanes (λ (route : LaneRoute). ⊥) (λ route one. one));
+        }) routes unowned (max 0 counts.hops) refl is nobody (no_counts fabric tables lanes (λ (route : LaneRoute). ⊥) (λ route one. one));
     silent = silent;
   }

@@ -1,5 +1,6 @@
 -- Counts if all end ports send with the same levels, level by level. Only private functions cite this.
 use Rattle.std.specs.Prelude.{◌<◌, ◌+◌, ℕ, Option, Some, None}
+use Rattle.ib_cells.specs.Cells.{TablesOf}
 use Rattle.ib_counts.specs.declared.counts.Loss.{Loss}
 use Rattle.ib_counts.specs.declared.counts.Losses.{Losses}
 use Rattle.ib_counts.specs.declared.counts.LostRoute.{LostRoute}
@@ -18,9 +19,9 @@ abbrev pub alike : ℕ → LevelsOf
 alike told = levels_of (Same told)
 
 -- a route with one of them that is less than another
-abbrev pub IsBelow : FabricOf → Traffic → ℕ → ℕ → LaneRoute → Type 0
-IsBelow fabric traffic told level route =
-    IsLaneRouteOf fabric traffic (alike told) route × (route.level < level)
+abbrev pub IsBelow : FabricOf → TablesOf → Traffic → ℕ → ℕ → LaneRoute → Type 0
+IsBelow fabric tables traffic told level route =
+    IsLaneRouteOf fabric tables traffic (alike told) route × (route.level < level)
 
 -- the least lost route of lesser levels; if there is none, that of one lane, with a level
 abbrev pub least_with : ℕ → Option LostLaneRoute → Option LostRoute → Option LostLaneRoute

@@ -1,6 +1,6 @@
 -- How many routes with a service level there are, how many of them arrive, and how many are lost by each
 -- cause.
-use Rattle.std.specs.Prelude.{◌≡◌, ◌≢◌, ◌≤◌, ◌+◌, ℕ, Some, MatchOption}
+use Rattle.std.specs.Prelude.{◌≡◌, ◌≢◌, ◌≤◌, ◌+◌, ℕ, Some, None, MatchOption}
 use Rattle.ib_cells.specs.Cells.{TablesOf}
 use Rattle.ib_counts.specs.Counts.{Route}
 use Rattle.ib_lane_counts.specs.declared.counts.LaneCounts.{LaneCounts}
@@ -14,7 +14,7 @@ use Rattle.ib_lane_routes.specs.declared.hop.LaneOutcome.TheVariants.{Arrives, S
 use Rattle.ib_lane_routes.specs.LaneRoutes.{LaneEndsAs, LaneSends, LaneWalksBy, begin_of, lane_hop}
 use Rattle.ib_net.specs.declared.node.EndPort.{EndPort}
 use Rattle.ib_net.specs.declared.node.Spot.{Spot}
-use Rattle.ib_net.specs.Fabric.{FabricOf, guid_of}
+use Rattle.ib_net.specs.Fabric.{FabricOf, guid_of, owner_of}
 use Rattle.ib_routes.specs.Counting.{IsCountOf}
 use Rattle.ib_routes.specs.declared.hop.Cause.TheVariants.{Missing, Dead, Wrong}
 use Rattle.ib_routes.specs.declared.traffic.Traffic.{Traffic}
@@ -29,12 +29,14 @@ pub record LaneRoute : Type 0 where
   pub level : ℕ
 
 -- a route of the traffic
-abbrev pub IsLaneRouteOf : FabricOf → Traffic → LevelsOf → LaneRoute → Type 0
-IsLaneRouteOf fabric traffic levels route = LaneSends fabric traffic levels route.lid route.source route.level
+abbrev pub IsLaneRouteOf : FabricOf → TablesOf → Traffic → LevelsOf → LaneRoute → Type 0
+IsLaneRouteOf fabric tables traffic levels route =
+    LaneSends fabric tables traffic levels route.lid route.source route.level
 
 -- an end port sends to a LID, and has no level for it
-pub record IsSilent (fabric : FabricOf) (traffic : Traffic) (levels : LevelsOf) (pair : Route) : Type 0 where
-  pub sends : Sends fabric traffic pair.lid pair.source
+pub record IsSilent (fabric : FabricOf) (tables : TablesOf) (traffic : Traffic) (levels : LevelsOf) (pair : Route)
+    : Type 0 where
+  pub sends : Sends fabric tables traffic pair.lid pair.source
   pub none : (level : ℕ) → HasLevel levels pair.source pair.lid level → ⊥
 
 -- a switch to which a route comes by arbitrarily many hops
@@ -100,6 +102,10 @@ module _ (fabric : FabricOf) (tables : TablesOf) (lanes : LanesOf) (Is : LaneRou
   abbrev pub IsOneThatArrives : LaneRoute → Type 0
   IsOneThatArrives route = (switches : ℕ) × IsOneThat (Arrives switches) route
 
+  -- .. one arrives that goes to a LID that nobody owns
+  abbrev pub IsOneToNobody : LaneRoute → Type 0
+  IsOneToNobody route = IsOneThatArrives route × (owner_of fabric route.lid ≡ None)
+
   -- .. those that arrive go through no more switches than so many, and one through so many: 0 if none arrives
   pub record AreMostHops (hops : ℕ) : Type 0 where
     pub most : (route : LaneRoute) (switches : ℕ) → IsOneThat (Arrives switches) route → switches ≤ hops
@@ -136,6 +142,7 @@ module _ (fabric : FabricOf) (tables : TablesOf) (lanes : LanesOf) (Is : LaneRou
   pub record AreCountsOf (counts : LaneCounts) : Type 0 where
     pub routes : IsCountOf Is counts.routes
     pub arrived : IsCountOf IsOneThatArrives counts.arrived
+    pub unowned : IsCountOf IsOneToNobody counts.unowned
     pub hops : AreMostHops counts.hops
     pub lost : AreLosses counts.lost
     pub all : counts.routes ≡ counts.arrived + lane_sum_of counts.lost
@@ -144,5 +151,5 @@ module _ (fabric : FabricOf) (tables : TablesOf) (lanes : LanesOf) (Is : LaneRou
 pub record AreLaneCounts (fabric : FabricOf) (tables : TablesOf) (lanes : LanesOf) (traffic : Traffic)
     (levels : LevelsOf) (counts : LaneCounts)
     : Type 0 where
-  pub of : AreCountsOf fabric tables lanes (IsLaneRouteOf fabric traffic levels) counts
-  pub silent : IsCountOf (IsSilent fabric traffic levels) counts.silent
+  pub of : AreCountsOf fabric tables lanes (IsLaneRouteOf fabric tables traffic levels) counts
+  pub silent : IsCountOf (IsSilent fabric tables traffic levels) counts.silent

@@ -1,7 +1,7 @@
 -- How routes are counted, LID by LID, end port by end port and level by level. Only private functions cite
 -- this.
 use Rattle.std.specs.Prelude.{◌≡◌, ◌<◌, ◌≤◌, ◌+◌, ◌*◌, ◌^◌, ◌⊎◌, ℕ, Option, Some, None, length}
-use Rattle.ib_cells.specs.Cells.{TablesOf}
+use Rattle.ib_cells.specs.Cells.{TablesOf, tables_of}
 use Rattle.ib_counts.specs.Counts.{Route}
 use Rattle.ib_counts.specs.Steps.{place_of}
 use Rattle.ib_lane_counts.specs.declared.counts.LaneCounts.{LaneCounts}
@@ -31,24 +31,24 @@ on_lanes Loops = lane.Loops
 
 -- a route to a lesser LID; or to this one, from one of the first so many end ports; or from the next one, with
 -- a lesser level
-abbrev pub IsUntil : FabricOf → Traffic → LevelsOf → (lid place level : ℕ) → LaneRoute → Type 0
-IsUntil fabric traffic levels lid place level route =
-    IsLaneRouteOf fabric traffic levels route
+abbrev pub IsUntil : FabricOf → TablesOf → Traffic → LevelsOf → (lid place level : ℕ) → LaneRoute → Type 0
+IsUntil fabric tables traffic levels lid place level route =
+    IsLaneRouteOf fabric tables traffic levels route
     × ((route.lid < lid)
     ⊎ ((route.lid ≡ lid)
     × ((place_of fabric route.source < place)
     ⊎ ((place_of fabric route.source ≡ place) × (route.level < level)))))
 
 -- a pair without a level, of a lesser LID; or of this one and one of the first so many end ports
-abbrev pub IsSilentUntil : FabricOf → Traffic → LevelsOf → (lid place : ℕ) → Route → Type 0
-IsSilentUntil fabric traffic levels lid place pair =
-    IsSilent fabric traffic levels pair
+abbrev pub IsSilentUntil : FabricOf → TablesOf → Traffic → LevelsOf → (lid place : ℕ) → Route → Type 0
+IsSilentUntil fabric tables traffic levels lid place pair =
+    IsSilent fabric tables traffic levels pair
     × ((pair.lid < lid) ⊎ ((pair.lid ≡ lid) × (place_of fabric pair.source < place)))
 
 -- Of a routing, the routes before those of an end port to a LID with a level or a greater one ..
 abbrev pub IsBeforeLevel : LaneRouting → (lid : ℕ) → EndPort → (level : ℕ) → LaneRoute → Type 0
 IsBeforeLevel routing lid source =
-    IsUntil routing.fabric.now routing.traffic (levels_of routing.levels.now) lid
+    IsUntil routing.fabric.now (tables_of routing.cells.now) routing.traffic (levels_of routing.levels.now) lid
     (place_of routing.fabric.now source)
 
 -- .. the routes before one ..
@@ -62,8 +62,8 @@ IsUpTo routing route = IsBeforeLevel routing route.lid route.source (route.level
 -- a route is one of the traffic and levels of a routing
 abbrev pub IsSent : LaneRouting → BegunRoute → Type 0
 IsSent routing route =
-    LaneSends routing.fabric.now routing.traffic (levels_of routing.levels.now) route.lid route.source
-    route.level
+    LaneSends routing.fabric.now (tables_of routing.cells.now) routing.traffic (levels_of routing.levels.now)
+    route.lid route.source route.level
 
 -- a route to a LID is to be told in place of the least one so far, if there is one
 abbrev pub IsLesser : FabricOf → Option LostLaneRoute → ℕ → EndPort → Type 0
@@ -81,7 +81,8 @@ module _ (fabric : FabricOf) (tables : TablesOf) (lanes : LanesOf) (traffic : Tr
     (levels : LevelsOf) where
   -- the counts of those, which are not too many
   pub record AreCountsUntil (lid place level : ℕ) (counts : LaneCounts) : Type 0 where
-    pub exact : AreCountsOf fabric tables lanes (IsUntil fabric traffic levels lid place level) counts
-    pub silent : IsCountOf (IsSilentUntil fabric traffic levels lid place) counts.silent
+    pub exact : AreCountsOf fabric tables lanes (IsUntil fabric tables traffic levels lid place level) counts
+    pub silent : IsCountOf (IsSilentUntil fabric tables traffic levels lid place) counts.silent
     pub few : counts.routes ≤ 16 * (lid * 2 ^ 17 + place) + level
     pub few_silent : counts.silent ≤ lid * 2 ^ 17 + place
+    pub few_unowned : counts.unowned ≤ counts.arrived

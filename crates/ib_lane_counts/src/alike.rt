@@ -70,10 +70,13 @@ impl LaneCounts {
     fn with(self, level: u8, counts: &Counts) -> LaneCounts
         requires all { self.routes ≡ self.arrived + lane_sum_of self.lost }
         requires all_new { counts.now.routes ≡ counts.now.arrived + sum_of counts.now.lost }
+        requires unowned { self.unowned ≤ self.arrived }
+        requires unowned_new { counts.now.unowned ≤ counts.now.arrived }
         requires fits { self.routes + counts.now.routes < 2 ^ 64 }
         ensures { result ≡ record {
           routes = self.routes + counts.now.routes;
           arrived = self.arrived + counts.now.arrived;
+          unowned = self.unowned + counts.now.unowned;
           hops = max self.hops counts.now.hops;
           lost = losses_with level self.lost counts.now.lost;
           silent = self.silent;
@@ -82,6 +85,7 @@ impl LaneCounts {
         LaneCounts {
             routes: self.routes + counts.routes,
             arrived: self.arrived + counts.arrived,
+            unowned: self.unowned + counts.unowned,
             hops: self.hops.max(counts.hops),
             lost: self.lost.with(level, &counts.lost),
             silent: self.silent,
@@ -93,13 +97,16 @@ impl LaneCounts {
         requires level { level < 16 }
         requires all { self.routes ≡ self.arrived + lane_sum_of self.lost }
         requires all_new { counts.now.routes ≡ counts.now.arrived + sum_of counts.now.lost }
+        requires unowned { self.unowned ≤ self.arrived }
+        requires unowned_new { counts.now.unowned ≤ counts.now.arrived }
         requires fits { self.routes + counts.now.routes < 2 ^ 64 }
         ensures all { result.routes ≡ result.arrived + lane_sum_of result.lost }
+        ensures unowned { result.unowned ≤ result.arrived }
         ensures routes { result.routes ≤ self.routes + counts.now.routes }
         ensures counts { (fabric : FabricOf) (tables : TablesOf) (lanes : LanesOf) (traffic : Traffic) → IsFabric fabric
             → IsKept fabric lanes told → AreCounts fabric tables traffic counts.now
-            → AreCountsOf fabric tables lanes (IsBelow fabric traffic told level) self
-            → AreCountsOf fabric tables lanes (IsBelow fabric traffic told (level + 1)) result }
+            → AreCountsOf fabric tables lanes (IsBelow fabric tables traffic told level) self
+            → AreCountsOf fabric tables lanes (IsBelow fabric tables traffic told (level + 1)) result }
     {
         if !has_bit(u64::from(told), usize::from(level)) {
             return self;
@@ -120,6 +127,7 @@ fn silent_of(told: u16, pairs: u64) -> u64
 /// with one of the levels is discarded.
 pub fn alike_counts(told: u16, counts: &Counts) -> LaneCounts
     requires all { counts.now.routes ≡ counts.now.arrived + sum_of counts.now.lost }
+    requires unowned { counts.now.unowned ≤ counts.now.arrived }
     requires few { counts.now.routes ≤ 2 ^ 40 }
     ensures counts { (fabric : FabricOf) (tables : TablesOf) (lanes : LanesOf) (traffic : Traffic) → IsFabric fabric
         → IsKept fabric lanes told → AreCounts fabric tables traffic counts.now

@@ -1,6 +1,7 @@
 //! How the routes of a traffic with service levels end, and how many do.
 
-ghost use Rattle.std.specs.Prelude.{◌≡◌, ◌≢◌, ◌<◌, ◌≤◌, ◌+◌, ◌*◌, ◌^◌, length, IfOk, Some};
+ghost use Rattle.std.specs.Prelude.{◌≡◌, ◌≢◌, ◌<◌, ◌≤◌, ◌+◌, ◌*◌, ◌^◌, ℕ, IfOk, None, Some};
+ghost use Rattle.ib_cells.specs.Cells.{tables_of};
 ghost use Rattle.ib_counts.specs.Steps.{IsEndPort, place_of};
 ghost use Rattle.ib_lane_counts.specs.Ends.{AreEnds, AreReady};
 ghost use Rattle.ib_lane_counts.specs.LaneCounts.{AreCountsOf, AreLaneCounts, lane_sum_of};
@@ -8,6 +9,7 @@ ghost use Rattle.ib_lane_counts.specs.Steps.{AreCountsUntil, AreRooms, IsBefore,
 ghost use Rattle.ib_lane_routes.specs.LaneRoutes.{begin_of};
 ghost use Rattle.ib_lane_routes.specs.Routing.{by_lanes, by_routing};
 ghost use Rattle.ib_net.specs.Fabric.{switch_count};
+ghost use Rattle.ib_routes.specs.Audience.{IsAudience};
 ghost use Rattle.ib_routes.specs.Routes.{Sends};
 ghost use Rattle.ib_rows.specs.Levels.{levels_of};
 
@@ -22,10 +24,10 @@ use crate::source::sender_begin;
 use crate::sums::sum_levels;
 use an_base::memory::OutOfMemory;
 use ib_counts::count::{count_routes, forget};
-use ib_counts::source::{end_port_at, end_ports};
+use ib_counts::source::{end_port_at, end_ports, unowned_of};
 use ib_lane_routes::routing::LaneRouting;
 use ib_net::node::{EndPort, Spot};
-use ib_routes::start::is_target;
+use ib_routes::audience::{Audience, audience_of};
 use ib_routes::word::has_bit;
 use ib_rows::levels::Levels;
 use std::alloc::Global;
@@ -51,12 +53,14 @@ impl LaneCounts {
         requires begins { begin_of routing.now.fabric.now route.source ≡ Some route.start }
         requires ends { by_lanes AreEnds routing.now route.lid route.start ends }
         requires all { self.old.routes ≡ self.old.arrived + lane_sum_of self.old.lost }
+        requires unowned { self.old.unowned ≤ self.old.arrived }
         requires fits { self.old.routes < 2 ^ 40 }
         ensures all { self.new.routes ≡ self.new.arrived + lane_sum_of self.new.lost }
         ensures routes { self.new.routes ≤ self.old.routes + 1 }
         ensures silent { self.new.silent ≡ self.old.silent }
+        ensures unowned { self.new.unowned ≤ self.new.arrived }
         ensures counts { levels_of routing.now.levels.now route.source route.lid ≡ told
-            → Sends routing.now.fabric.now routing.now.traffic route.lid route.source
+            → Sends routing.now.fabric.now (tables_of routing.now.cells.now) routing.now.traffic route.lid route.source
             → by_lanes AreCountsOf routing.now (IsBefore routing.now route) self.old
             → by_lanes AreCountsOf routing.now (IsUpTo routing.now route) self.new }
     {
@@ -74,11 +78,13 @@ impl LaneCounts {
         requires begins { begin_of routing.now.fabric.now sender.source ≡ Some sender.start }
         requires ends { by_lanes AreEnds routing.now sender.lid sender.start ends }
         requires all { self.old.routes ≡ self.old.arrived + lane_sum_of self.old.lost }
+        requires unowned { self.old.unowned ≤ self.old.arrived }
         requires fits { self.old.routes < 2 ^ 39 }
         ensures routes { self.new.routes ≤ self.old.routes + 16 }
         ensures silent { self.new.silent ≡ self.old.silent }
+        ensures unowned { self.new.unowned ≤ self.new.arrived }
         ensures counts { levels_of routing.now.levels.now sender.source sender.lid ≡ told
-            → Sends routing.now.fabric.now routing.now.traffic sender.lid sender.source
+            → Sends routing.now.fabric.now (tables_of routing.now.cells.now) routing.now.traffic sender.lid sender.source
             → by_lanes AreCountsOf routing.now (IsBeforeLevel routing.now sender.lid sender.source 0) self.old
             → by_lanes AreCountsOf routing.now (IsBeforeLevel routing.now sender.lid sender.source 16) self.new }
     {
@@ -102,30 +108,39 @@ impl LaneCounts {
         requires some { told ≢ 0 }
         requires ends { by_lanes AreEnds routing.now sender.lid sender.start ends }
         requires all { self.old.routes ≡ self.old.arrived + lane_sum_of self.old.lost }
+        requires unowned { self.old.unowned ≤ self.old.arrived }
         requires fits { self.old.routes < 2 ^ 39 }
         ensures routes { self.new.routes ≤ self.old.routes + 16 }
         ensures silent { self.new.silent ≡ self.old.silent }
+        ensures unowned { self.new.unowned ≤ self.new.arrived }
         ensures counts { levels_of routing.now.levels.now sender.source sender.lid ≡ told
-            → Sends routing.now.fabric.now routing.now.traffic sender.lid sender.source
+            → Sends routing.now.fabric.now (tables_of routing.now.cells.now) routing.now.traffic sender.lid sender.source
             → by_lanes AreCountsOf routing.now (IsBeforeLevel routing.now sender.lid sender.source 0) self.old
             → by_lanes AreCountsOf routing.now (IsBeforeLevel routing.now sender.lid sender.source 16) self.new }
     {
         match ends.all_arrive(told) {
-            Some(switches) => self.add_arrived(u64::from(told.count_ones()), switches),
+            Some(switches) => {
+                let routes = u64::from(told.count_ones());
+                let unowned = unowned_of(routing.fabric, sender.lid as usize, routes);
+                self.add_arrived(routes, unowned, switches);
+            }
             None => self.add_each(routing, told, sender, ends),
         }
     }
 
-    // The routes of an end port to a LID, if it sends to it.
+    // The routes of an end port to a LID, which has this audience, if it sends to it.
     fn add_source(
         &mut self,
         routing: &LaneRouting<'_>,
         lid: u16,
+        audience: Audience,
         rooms: &mut Rooms,
         source: EndPort,
     )
         requires few { switch_count routing.now.fabric.now ≤ 2 ^ 14 }
         requires lid { lid < 64 * routing.now.cells.now.blocks }
+        requires audience { IsAudience routing.now.fabric.now (tables_of routing.now.cells.now) routing.now.traffic lid
+            audience }
         requires ready { by_lanes AreReady routing.now lid rooms.old }
         requires source { IsEndPort routing.now.fabric.now source }
         requires low { place_of routing.now.fabric.now source ≤ 2 ^ 17 }
@@ -136,7 +151,7 @@ impl LaneCounts {
             self.new }
     {
         let target = lid as usize;
-        let Some(start) = sender_begin(routing.fabric, routing.traffic, target, source) else {
+        let Some(start) = sender_begin(routing.fabric, audience, target, source) else {
             return;
         };
         let told = routing.levels.levels(source, target);
@@ -148,10 +163,18 @@ impl LaneCounts {
         self.add_levels(routing, told, Sender { lid, source, start }, ends);
     }
 
-    // The routes of all end ports to a LID, one after the other.
-    fn with_sources(self, routing: &LaneRouting<'_>, lid: u16, rooms: &mut Rooms) -> LaneCounts
+    // The routes of all end ports to a LID, which has this audience, one after the other.
+    fn with_sources(
+        self,
+        routing: &LaneRouting<'_>,
+        lid: u16,
+        audience: Audience,
+        rooms: &mut Rooms,
+    ) -> LaneCounts
         requires few { switch_count routing.now.fabric.now ≤ 2 ^ 14 }
         requires lid { lid < 64 * routing.now.cells.now.blocks }
+        requires audience { IsAudience routing.now.fabric.now (tables_of routing.now.cells.now) routing.now.traffic lid
+            audience }
         requires rooms { AreRooms (switch_count routing.now.fabric.now) rooms.old }
         requires counts { by_routing AreCountsUntil routing.now lid 0 0 self }
         ensures rooms { AreRooms (switch_count routing.now.fabric.now) rooms.new }
@@ -162,7 +185,7 @@ impl LaneCounts {
         let mut counts = self;
         'places: for place in 0..end_ports(routing.fabric) {
             let source = end_port_at(routing.fabric, place);
-            counts.add_source(routing, lid, rooms, source);
+            counts.add_source(routing, lid, audience, rooms, source);
         }
         counts
     }
@@ -176,22 +199,26 @@ impl LaneCounts {
         ensures rooms { AreRooms (switch_count routing.now.fabric.now) rooms.new }
         ensures counts { by_routing AreCountsUntil routing.now (lid + 1) 0 0 result }
     {
-        if !is_target(routing.fabric, routing.traffic, lid as usize) {
-            return self;
+        let target = lid as usize;
+        let audience = audience_of(routing.fabric, routing.cells, routing.traffic, target);
+        match audience {
+            Audience::Nobody => self,
+            _ => self.with_sources(routing, lid, audience, rooms),
         }
-        self.with_sources(routing, lid, rooms)
     }
 }
 
-// The counts of the routes to all LIDs that have an owner.
+// The counts of the routes to all LIDs.
 fn count_lids(routing: &LaneRouting<'_>, rooms: &mut Rooms) -> LaneCounts
     requires few { switch_count routing.now.fabric.now ≤ 2 ^ 14 }
     requires rooms { AreRooms (switch_count routing.now.fabric.now) rooms.old }
-    ensures counts { by_routing AreCountsUntil routing.now (length routing.now.fabric.now.owners) 0 0 result }
-    ensures low { length routing.now.fabric.now.owners ≤ 2 ^ 16 }
+    ensures counts { by_routing AreCountsUntil routing.now (64 * routing.now.cells.now.blocks) 0 0 result }
+    ensures low { routing.now.cells.now.blocks ≤ 1024 }
+    ensures past { (switch lid : ℕ) → 64 * routing.now.cells.now.blocks ≤ lid
+        → tables_of routing.now.cells.now switch lid ≡ None }
 {
     let mut counts = LaneCounts::none();
-    'lids: for lid in 0..routing.fabric.lids() {
+    'lids: for lid in 0..64 * routing.cells.blocks() {
         counts = counts.with_lid(routing, lid as u16, rooms);
     }
     counts
@@ -233,7 +260,7 @@ fn count_told(alloc: Global, routing: &LaneRouting<'_>) -> Result<LaneCounts, Ou
         return count_each(alloc, routing);
     }
     let counts = count_routes(alloc, routing.fabric, routing.cells, routing.traffic)?;
-    let sums = sum_levels(routing.fabric, routing.levels, routing.traffic);
+    let sums = sum_levels(alloc, routing)?;
     match sums.counts(&counts) {
         Some(all) => Ok(all),
         None => count_each(alloc, routing),
@@ -241,8 +268,9 @@ fn count_told(alloc: Global, routing: &LaneRouting<'_>) -> Result<LaneCounts, Ou
 }
 
 /// How many routes of a traffic with service levels there are, each level of an end port and a LID a route of its own; how
-/// many arrive, through how many switches the longest of these goes; those that do not arrive, by cause: of each the least
-/// and where it is lost; and how many pairs of an end port and a LID have no level.
+/// many arrive, how many of these go to LIDs that nobody owns, through how many switches the longest goes; those that do not
+/// arrive, by cause: of each the least and where it is lost; and how many pairs of an end port and a LID have no level. The
+/// error is out of memory.
 pub fn count_lane_routes(
     alloc: Global,
     routing: &LaneRouting<'_>,
@@ -252,6 +280,6 @@ pub fn count_lane_routes(
 {
     match routing.levels {
         Levels::Same(told) => count_alike(alloc, routing, *told),
-        Levels::Told(_) => count_told(alloc, routing),
+        _ => count_told(alloc, routing),
     }
 }

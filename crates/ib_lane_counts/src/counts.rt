@@ -48,6 +48,8 @@ pub struct LaneCounts {
     pub routes: u64,
     /// How many of them arrive.
     pub arrived: u64,
+    /// How many of these go to a LID that nobody owns.
+    pub unowned: u64,
     /// The most switches of one route that arrives; 0 if none arrives.
     pub hops: u32,
     /// Those that do not arrive.

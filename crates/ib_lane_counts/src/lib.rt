@@ -2,8 +2,8 @@
 //!
 //! It stands on `an_base`, `ib_net`, `ib_cells`, `ib_routes`, `ib_counts`, `ib_rows` and `ib_lane_routes`. Its one contract:
 //! `count::count_lane_routes` answers just the counts of `specs/LaneCounts`, with the greatest number of switches that a
-//! route goes through which arrives, of each cause the least route that is lost by it and where, and how many pairs of an
-//! end port and a LID have no level.
+//! route goes through which arrives, how many of these go to LIDs that nobody owns, of each cause the least route that is
+//! lost by it and where, and how many pairs of an end port and a LID have no level.
 #![tactic(auto)]
 
 mod alike;

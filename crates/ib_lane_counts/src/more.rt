@@ -10,6 +10,7 @@ ghost use Rattle.ib_net.specs.Fabric.{switch_count};
 use crate::counts::{LaneCounts, LaneLoss, LaneLosses, LostLaneRoute};
 use crate::lost::lane_lost_at;
 use crate::route::BegunRoute;
+use ib_counts::source::unowned_of;
 use ib_lane_routes::hop::LaneOutcome;
 use ib_lane_routes::routing::LaneRouting;
 use ib_net::fabric::Fabric;
@@ -105,6 +106,7 @@ impl LaneCounts {
         ensures { result ≡ record {
           routes = 0;
           arrived = 0;
+          unowned = 0;
           hops = 0;
           lost = record {
             missing = record { count = 0; least = None };
@@ -119,6 +121,7 @@ impl LaneCounts {
         LaneCounts {
             routes: 0,
             arrived: 0,
+            unowned: 0,
             hops: 0,
             lost: LaneLosses {
                 missing: LaneLoss::NONE,
@@ -139,9 +142,11 @@ impl LaneCounts {
         requires start { route.start.switch < switch_count routing.now.fabric.now }
         requires begins { begin_of routing.now.fabric.now route.source ≡ Some route.start }
         requires all { self.old.routes ≡ self.old.arrived + lane_sum_of self.old.lost }
+        requires unowned { self.old.unowned ≤ self.old.arrived }
         requires fits { self.old.routes < 2 ^ 40 }
         ensures routes { self.new.routes ≡ self.old.routes + 1 }
         ensures all { self.new.routes ≡ self.new.arrived + lane_sum_of self.new.lost }
+        ensures unowned { self.new.unowned ≤ self.new.arrived }
         ensures silent { self.new.silent ≡ self.old.silent }
         ensures counts { IsSent routing.now route
             → LaneEndsAs (hop_by routing.now route.level route.lid) route.start outcome
@@ -152,19 +157,23 @@ impl LaneCounts {
         match outcome {
             LaneOutcome::Arrives(switches) => {
                 self.arrived += 1;
+                self.unowned += unowned_of(routing.fabric, route.lid as usize, 1);
                 self.hops = self.hops.max(switches);
             }
             _ => self.lost.add(routing, route, outcome),
         }
     }
 
-    /// So many more that all arrive, each through so many switches.
-    pub fn add_arrived(&mut self, routes: u64, switches: u32)
+    /// So many more that all arrive, the longest through so many switches; and so many of them go to LIDs that nobody owns.
+    pub fn add_arrived(&mut self, routes: u64, unowned: u64, switches: u32)
         requires all { self.old.arrived ≤ self.old.routes }
+        requires unowned { self.old.unowned ≤ self.old.arrived }
+        requires some { unowned ≤ routes }
         requires fits { self.old.routes + routes < 2 ^ 64 }
         ensures { self.new ≡ record {
           routes = self.old.routes + routes;
           arrived = self.old.arrived + routes;
+          unowned = self.old.unowned + unowned;
           hops = max self.old.hops switches;
           lost = self.old.lost;
           silent = self.old.silent;
@@ -172,6 +181,7 @@ impl LaneCounts {
     {
         self.routes += routes;
         self.arrived += routes;
+        self.unowned += unowned;
         self.hops = self.hops.max(switches);
     }
 }

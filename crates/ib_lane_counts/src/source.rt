@@ -3,21 +3,26 @@
 ghost use Rattle.std.specs.Prelude.{◌≡◌, ◌<◌, Some, IfSome, MatchOption};
 ghost use Rattle.ib_lane_routes.specs.LaneRoutes.{begin_of};
 ghost use Rattle.ib_net.specs.Fabric.{switch_count};
-ghost use Rattle.ib_routes.specs.Routes.{Sends};
+ghost use Rattle.ib_routes.specs.Audience.{IsHeard};
 
 use ib_lane_routes::start::begin_at;
 use ib_net::fabric::Fabric;
 use ib_net::node::{EndPort, Spot};
-use ib_routes::start::sends;
-use ib_routes::traffic::Traffic;
+use ib_routes::audience::{Audience, is_heard};
 
-/// The port of a switch by which the routes of an end port to a LID begin, if it sends to it.
-pub fn sender_begin(fabric: &Fabric, traffic: Traffic, lid: usize, source: EndPort) -> Option<Spot>
-    ensures begin { MatchOption result (Sends fabric.now traffic lid source → ⊥)
-        (λ start. Sends fabric.now traffic lid source × (begin_of fabric.now source ≡ Some start)) }
+/// The port of a switch by which the routes of an end port to a LID begin, if it sends to it: if it is of the audience of
+/// the LID.
+pub fn sender_begin(
+    fabric: &Fabric,
+    audience: Audience,
+    lid: usize,
+    source: EndPort,
+) -> Option<Spot>
+    ensures begin { MatchOption result (IsHeard fabric.now audience lid source → ⊥)
+        (λ start. IsHeard fabric.now audience lid source × (begin_of fabric.now source ≡ Some start)) }
     ensures within { IfSome result (λ start. start.switch < switch_count fabric.now) }
 {
-    if !sends(fabric, traffic, lid, source) {
+    if !is_heard(fabric, audience, lid, source) {
         return None;
     }
     begin_at(fabric, source)

@@ -1,12 +1,11 @@
 -- The lines of a picture of a credit loop over lanes.
 
-use Rattle.std.specs.Prelude.{ℕ, List, [], ◌∷◌, length, codes}
-use Rattle.std.specs.Fmt.{decimal}
+use Rattle.std.specs.Prelude.{ℕ, List, [], ◌∷◌, ◌++◌, length}
 use Rattle.ib_lines.specs.Answers.{Row}
 use Rattle.ib_lines.specs.Pictures.{arrow_row_by, lane_label, loop_word, picture_text_by}
 use Rattle.ib_lane_lines.specs.declared.picture.LaneArrow.{LaneArrow}
 use Rattle.ib_lane_lines.specs.declared.picture.LanePicture.{LanePicture}
-use Rattle.ib_lane_lines.specs.LaneAnswers.{levels_word}
+use Rattle.ib_lane_lines.specs.LaneAnswers.{asked_words}
 
 -- a channel: as one without lanes, but for its label, which tells the lane and the service level of the route
 abbrev pub lane_arrow_row : LaneArrow → Row
@@ -15,8 +14,7 @@ lane_arrow_row one = arrow_row_by (lane_label one.lane one.level) one.arrow
 -- which routes were judged, on how many lanes, with which levels, and what loop there is
 abbrev pub lane_title : LanePicture → Row
 lane_title picture =
-    picture.traffic.now ∷ codes "lanes" ∷ decimal picture.lanes ∷ codes "levels" ∷ levels_word picture.levels
-    ∷ loop_word (length picture.arrows.items) ∷ []
+    asked_words picture.traffic.now picture.lanes picture.asked ++ loop_word (length picture.arrows.items) ∷ []
 
 abbrev pub lane_picture_text : LanePicture → List ℕ
 lane_picture_text picture =

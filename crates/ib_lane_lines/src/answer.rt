@@ -1,6 +1,6 @@
 //! What the program answers for tables with lanes.
 
-use ib_lines::answer::{Name, Read, Routes, Step};
+use ib_lines::answer::{LoopStep, Name, Read, Routes};
 
 /// With which service levels end ports send.
 #[derive(Clone, Copy)]
@@ -13,11 +13,31 @@ pub enum LevelsAsked {
     Any,
 }
 
+/// With which service levels end ports send, as a call asks.
+#[derive(Clone, Copy)]
+pub struct Asked {
+    /// Which levels are told.
+    pub levels: LevelsAsked,
+    /// Whether a reply has the level of its request.
+    pub replies: bool,
+    /// The level of an end port and a LID that have none otherwise, if one is given.
+    pub silent: Option<u8>,
+}
+
+/// A pair of an end port and a LID that has no service level.
+#[derive(Clone, Copy)]
+pub struct Mute {
+    /// The LID to which the end port sends.
+    pub lid: u16,
+    /// The GUID of the end port.
+    pub source: u64,
+}
+
 /// A dependency of a cycle, by a route that makes it: the route takes the channel, and then the next one of the cycle.
 #[derive(Clone, Copy)]
 pub struct LaneStep {
     /// The switch and the port of the channel, and the LID and the source of the route.
-    pub step: Step,
+    pub step: LoopStep,
     /// The lane of the channel.
     pub lane: u8,
     /// The service level of the route.
@@ -81,11 +101,13 @@ pub struct LaneAnswer {
     /// How many lanes there are.
     pub lanes: u64,
     /// With which service levels it was judged.
-    pub levels: LevelsAsked,
+    pub asked: Asked,
     /// The routes of the traffic, each level of an end port and a LID one.
     pub routes: Routes,
     /// How many pairs of an end port and a LID to which it sends have no level.
     pub silent: u64,
+    /// The first of them, if there are any.
+    pub mute: Option<Mute>,
     /// How many channels the fabric has.
     pub channels: u64,
     /// How many dependencies the routes make.
@@ -96,6 +118,8 @@ pub struct LaneAnswer {
     pub losses: LaneLosses,
     /// The least lost route of each cause that occurs.
     pub lost: Vec<LaneLost>,
+    /// How many switches and end ports have the base LID 65535, which nobody has set.
+    pub unset: u64,
     /// The names of the nodes above.
     pub names: Vec<Name>,
 }

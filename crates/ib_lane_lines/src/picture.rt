@@ -1,15 +1,17 @@
 //! A credit loop over lanes as a picture, in the language of Graphviz.
 
-ghost use Rattle.std.specs.Prelude.{◌≡◌, IfOk};
-ghost use Rattle.ib_lane_lines.specs.LanePictures.{lane_picture_text};
+ghost use Rattle.std.specs.Prelude.{◌≡◌, IfOk, map};
+ghost use Rattle.ib_lines.specs.Pictures.{picture_text_by};
+ghost use Rattle.ib_lines.specs.RowWords.{word_text};
+ghost use Rattle.ib_lane_lines.specs.LanePictures.{lane_arrow_row, lane_picture_text};
 
-use crate::answer::LevelsAsked;
+use crate::answer::Asked;
 use crate::printer::levels_word;
 use an_base::memory::OutOfMemory;
 use ib_lines::answer::Name;
 use ib_lines::picture::{Arrow, print_picture_by, push_arrow};
-use ib_lines::row::HasRow;
 use ib_lines::row::RowWord::{Loop, Number, OnLane, Text};
+use ib_lines::row::{HasRow, RowWord};
 use std::alloc::Global;
 
 /// A channel of a credit loop over lanes.
@@ -31,7 +33,7 @@ pub struct LanePicture {
     /// How many lanes there are.
     pub lanes: u64,
     /// With which service levels it was judged.
-    pub levels: LevelsAsked,
+    pub asked: Asked,
     /// The names of the switches.
     pub names: Vec<Name>,
     /// The channels, or none if there is no credit loop.
@@ -42,19 +44,47 @@ pub struct LanePicture {
 pub fn print_picture(alloc: Global, picture: &LanePicture) -> Result<Vec<u8>, OutOfMemory>
     ensures { IfOk result (λ text. text.items ≡ lane_picture_text picture.now) }
 {
-    print_picture_by(
-        alloc,
-        &[
-            Text(picture.traffic.as_bytes()),
-            Text(b"lanes"),
-            Number(picture.lanes),
-            Text(b"levels"),
-            levels_word(picture.levels),
-            Loop(picture.arrows.len()),
-        ],
-        &picture.names,
-        &picture.arrows,
-    )
+    let traffic = Text(picture.traffic.as_bytes());
+    let on = Text(b"lanes");
+    let lanes = Number(picture.lanes);
+    let with = Text(b"levels");
+    let levels = levels_word(picture.asked.levels);
+    let no = Text(b"replies no");
+    let arrows = Loop(picture.arrows.len());
+    match (picture.asked.replies, picture.asked.silent) {
+        (true, None) => print_by(alloc, &[traffic, on, lanes, with, levels, arrows], picture),
+        (false, None) => print_by(
+            alloc,
+            &[traffic, on, lanes, with, levels, no, arrows],
+            picture,
+        ),
+        (true, Some(silent)) => {
+            let level = Number(u64::from(silent));
+            let last = Text(b"silent");
+            print_by(
+                alloc,
+                &[traffic, on, lanes, with, levels, last, level, arrows],
+                picture,
+            )
+        }
+        (false, Some(silent)) => {
+            let level = Number(u64::from(silent));
+            let last = Text(b"silent");
+            print_by(
+                alloc,
+                &[traffic, on, lanes, with, levels, no, last, level, arrows],
+                picture,
+            )
+        }
+    }
+}
+
+// The text of a picture with this title.
+fn print_by(alloc: Global, title: &[RowWord], picture: &LanePicture) -> Result<Vec<u8>, OutOfMemory>
+    ensures { IfOk result (λ text. text.items ≡ picture_text_by lane_arrow_row (map word_text title.now)
+        picture.now.names.items picture.now.arrows.items) }
+{
+    print_picture_by(alloc, title, &picture.names, &picture.arrows)
 }
 
 impl HasRow for LaneArrow {

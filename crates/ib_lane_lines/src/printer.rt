@@ -3,11 +3,13 @@
 ghost use Rattle.std.specs.Prelude.{◌≡◌, ◌++◌, OnOk, IfOk};
 ghost use Rattle.text_lines.specs.Lines.{line_text, lines_text};
 ghost use Rattle.ib_lines.specs.RowWords.{word_text};
-ghost use Rattle.ib_lane_lines.specs.LaneAnswers.{lane_answer_text, lane_judged_row, lane_losses_row, lane_lost_rows, levels_word, loss_word, note_rows, silent_rows};
+ghost use Rattle.ib_lane_lines.specs.LaneAnswers.{lane_answer_text, lane_judged_row, lane_losses_row, lane_lost_rows, levels_word, loss_word, mute_rows, note_rows, silent_rows};
 
-use crate::answer::{LaneAnswer, LaneLosses, LaneLost, LaneStep, LevelsAsked, LossCause};
+use crate::answer::{
+    Asked, LaneAnswer, LaneLosses, LaneLost, LaneStep, LevelsAsked, LossCause, Mute,
+};
 use an_base::memory::OutOfMemory;
-use ib_lines::printer::{push_channels, push_cycle, push_read, push_routes};
+use ib_lines::printer::{push_channels, push_cycle, push_read, push_routes, push_unset};
 use ib_lines::row::RowWord::{Guid, Number, Text};
 use ib_lines::row::{HasRow, RowWord, push_row, push_rows};
 use std::alloc::Global;
@@ -33,14 +35,16 @@ fn push_answer(alloc: Global, text: &mut Vec<u8>, answer: &LaneAnswer) -> Result
         text,
         answer.traffic.as_bytes(),
         answer.lanes,
-        answer.levels,
+        answer.asked,
     )?;
     push_routes(alloc, text, answer.routes)?;
     push_silent(alloc, text, answer.silent)?;
+    push_mute(alloc, text, answer.mute)?;
     push_channels(alloc, text, answer.channels, answer.dependencies)?;
     push_cycle(alloc, text, &answer.cycle)?;
-    push_note(alloc, text, answer.levels, &answer.cycle)?;
+    push_note(alloc, text, answer.asked.levels, &answer.cycle)?;
     push_lost(alloc, text, answer.losses, &answer.lost)?;
+    push_unset(alloc, text, answer.unset)?;
     push_rows(alloc, text, &answer.names)
 }
 
@@ -50,24 +54,53 @@ fn push_judged(
     text: &mut Vec<u8>,
     traffic: &[u8],
     lanes: u64,
-    levels: LevelsAsked,
+    asked: Asked,
 ) -> Result<(), OutOfMemory>
     ensures { OnOk result
-        (text.new.items ≡ text.old.items ++ line_text (lane_judged_row traffic.now lanes levels)) }
+        (text.new.items ≡ text.old.items ++ line_text (lane_judged_row traffic.now lanes asked)) }
 {
-    push_row(
-        alloc,
-        text,
-        Text(b"judged"),
-        &[
-            Text(b"traffic"),
-            Text(traffic),
-            Text(b"lanes"),
-            Number(lanes),
-            Text(b"levels"),
-            levels_word(levels),
-        ],
-    )
+    let judged = Text(b"judged");
+    let word = Text(b"traffic");
+    let traffic = Text(traffic);
+    let on = Text(b"lanes");
+    let lanes = Number(lanes);
+    let with = Text(b"levels");
+    let levels = levels_word(asked.levels);
+    let no = Text(b"replies no");
+    match (asked.replies, asked.silent) {
+        (true, None) => push_row(
+            alloc,
+            text,
+            judged,
+            &[word, traffic, on, lanes, with, levels],
+        ),
+        (false, None) => push_row(
+            alloc,
+            text,
+            judged,
+            &[word, traffic, on, lanes, with, levels, no],
+        ),
+        (true, Some(silent)) => {
+            let level = Number(u64::from(silent));
+            let last = Text(b"silent");
+            push_row(
+                alloc,
+                text,
+                judged,
+                &[word, traffic, on, lanes, with, levels, last, level],
+            )
+        }
+        (false, Some(silent)) => {
+            let level = Number(u64::from(silent));
+            let last = Text(b"silent");
+            push_row(
+                alloc,
+                text,
+                judged,
+                &[word, traffic, on, lanes, with, levels, no, last, level],
+            )
+        }
+    }
 }
 
 pub(crate) fn levels_word(levels: LevelsAsked) -> RowWord<'static>
@@ -88,6 +121,26 @@ fn push_silent(alloc: Global, text: &mut Vec<u8>, silent: u64) -> Result<(), Out
         return Ok(());
     }
     push_row(alloc, text, Text(b"silent"), &[Number(silent)])
+}
+
+// The first pair that has none.
+fn push_mute(alloc: Global, text: &mut Vec<u8>, mute: Option<Mute>) -> Result<(), OutOfMemory>
+    ensures { OnOk result (text.new.items ≡ text.old.items ++ lines_text (mute_rows mute)) }
+{
+    match mute {
+        None => Ok(()),
+        Some(pair) => push_row(
+            alloc,
+            text,
+            Text(b"mute"),
+            &[
+                Text(b"lid"),
+                Number(u64::from(pair.lid)),
+                Text(b"from"),
+                Guid(pair.source),
+            ],
+        ),
+    }
 }
 
 // What a cycle says of the levels in use, if all sixteen were judged.

@@ -9,7 +9,7 @@ use Rattle.ib_cells.specs.Cells.{TablesOf}
 use Rattle.ib_rows.specs.Lanes.{LanesOf}
 use Rattle.ib_routes.specs.declared.hop.Cause.TheVariants.{Missing}
 use Rattle.ib_routes.specs.Links.{IsTo}
-use Rattle.ib_routes.specs.Routes.{is_host, is_switch}
+use Rattle.ib_routes.specs.Routes.{ends_at_host, ends_at_switch}
 use Rattle.ib_routes.proofs.ChannelLemmas.{port_low}
 use Rattle.ib_lane_routes.specs.declared.hop.Exit.{Exit}
 use Rattle.ib_lane_routes.specs.declared.hop.Exit.TheVariants.{Nowhere, Own, By}
@@ -32,10 +32,10 @@ exit_side fabric switch (Some one) port side is =
 module _ (fabric : FabricOf) (lanes : LanesOf) (level lid : ℕ) (at : Spot) where
   abbrev pub through : Exit → LaneHop
   through Nowhere = Stop Missing
-  through Own = lane_end_if (is_switch (owner_of fabric lid) at.switch)
+  through Own = lane_end_if (ends_at_switch (owner_of fabric lid) at.switch)
   through (By port side) = lane_hop_over (owner_of fabric lid) port (lanes at.switch at.port port level) side
 
-  by_cond : (b : Bool) (port : ℕ) (side : Side) → through (cond b Own (By port side)) ≡ cond b (lane_end_if (is_switch (owner_of fabric lid) at.switch)) (lane_hop_over (owner_of fabric lid) port (lanes at.switch at.port port level) side)
+  by_cond : (b : Bool) (port : ℕ) (side : Side) → through (cond b Own (By port side)) ≡ cond b (lane_end_if (ends_at_switch (owner_of fabric lid) at.switch)) (lane_hop_over (owner_of fabric lid) port (lanes at.switch at.port port level) side)
   by_cond true port side = refl
   by_cond false port side = refl
 
@@ -67,4 +67,4 @@ module _ (fabric : FabricOf) (lanes : LanesOf) (level lid : ℕ) (at : Spot) whe
   pub side_link : (port : ℕ) (side : Side) → side ≡ side_of fabric at.switch port → LeadsWithin (switch_count fabric) side → lanes at.switch at.port port level ≤ 15 → IsByLaneLink fabric lanes level at (lane_hop_over (owner_of fabric lid) port (lanes at.switch at.port port level) side)
   side_link port Bare is within low = tt
   side_link port (To next entry) is within low = on_link (eqb (lanes at.switch at.port port level) 15) port (lanes at.switch at.port port level) next entry refl low refl (sym is) within
-  side_link port (End end) is within low = on_end (eqb (lanes at.switch at.port port level) 15) (is_host (owner_of fabric lid) end)
+  side_link port (End end) is within low = on_end (eqb (lanes at.switch at.port port level) 15) (ends_at_host (owner_of fabric lid) end)

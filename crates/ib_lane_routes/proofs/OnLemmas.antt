@@ -8,7 +8,7 @@ use Rattle.ib_net.specs.declared.node.Side.{Side}
 use Rattle.ib_net.specs.declared.node.Side.TheVariants.{Bare, To, End}
 use Rattle.ib_net.specs.declared.node.Spot.{Spot}
 use Rattle.ib_net.specs.Fabric.{FabricOf, owner_of, side_of}
-use Rattle.ib_routes.specs.Routes.{is_host, is_switch}
+use Rattle.ib_routes.specs.Routes.{ends_at_host, ends_at_switch}
 use Rattle.ib_lane_routes.specs.declared.hop.LaneHop.TheVariants.{On, Discard}
 use Rattle.ib_lane_routes.specs.LaneRoutes.{lane_end_if, lane_hop, lane_hop_by, lane_hop_over}
 use Rattle.ib_lane_routes.specs.LaneWays.{IsWay}
@@ -36,7 +36,7 @@ over_on owner by on Bare port lane next is = absurd (cc)
 over_on owner by on (To to entry) port lane next is =
     let parts = to_on (eqb on 15) by on to entry port lane next refl is in
     (parts.0, parts.1, parts.2, ap (λ (s : ℕ). To s entry) parts.3.0 ∙ ap (λ (p : ℕ). To next.switch p) parts.3.1)
-over_on owner by on (End end) port lane next is = absurd (end_not (eqb on 15) (is_host owner end) port lane next is)
+over_on owner by on (End end) port lane next is = absurd (end_not (eqb on 15) (ends_at_host owner end) port lane next is)
 
 cond_on : (b c : Bool) (owner : Option EndPort) (by on : ℕ) (side : Side) (port lane : ℕ) (next : Spot) → cond b (lane_end_if c) (lane_hop_over owner by on side) ≡ On port lane next → (by ≡ port) × (on ≡ lane) × (on ≢ 15) × (side ≡ To next.switch next.port)
 cond_on true c owner by on side port lane next is = absurd (not_on c port lane next is)
@@ -45,7 +45,7 @@ cond_on false c owner by on side port lane next is = over_on owner by on side po
 by_on : (fabric : FabricOf) (lane_of : ℕ → ℕ) (switch lid : ℕ) (told : Option ℕ) (port lane : ℕ) (next : Spot) → lane_hop_by fabric lane_of switch lid told ≡ On port lane next → (told ≡ Some port) × (lane ≡ lane_of port) × (lane ≢ 15) × (side_of fabric switch port ≡ To next.switch next.port)
 by_on fabric lane_of switch lid None port lane next is = absurd (cc)
 by_on fabric lane_of switch lid (Some by) port lane next is =
-    let parts = cond_on (eqb by 0) (is_switch (owner_of fabric lid) switch) (owner_of fabric lid) by (lane_of by) (side_of fabric switch by) port lane next is in
+    let parts = cond_on (eqb by 0) (ends_at_switch (owner_of fabric lid) switch) (owner_of fabric lid) by (lane_of by) (side_of fabric switch by) port lane next is in
     (ap Some parts.0, sym parts.1 ∙ ap lane_of parts.0, (λ last. parts.2 (parts.1 ∙ last)), ap (λ (p : ℕ). side_of fabric switch p) (sym parts.0) ∙ parts.3)
 
 pub lane_on : (fabric : FabricOf) (tables : TablesOf) (lanes : LanesOf) (level lid : ℕ) (at : Spot) (port lane : ℕ) (next : Spot) → lane_hop fabric tables lanes level lid at ≡ On port lane next → (tables at.switch lid ≡ Some port) × (lane ≡ lanes at.switch at.port port level) × (lane ≢ 15) × (side_of fabric at.switch port ≡ To next.switch next.port)

@@ -12,7 +12,7 @@ use Rattle.ib_net.specs.Fabric.{FabricOf, cable_of, owner_of, side_of, start_of,
 use Rattle.ib_routes.specs.declared.hop.Hop.{Hop}
 use Rattle.ib_routes.specs.declared.hop.Hop.TheVariants as one
 use Rattle.ib_routes.specs.declared.traffic.Traffic.{Traffic}
-use Rattle.ib_routes.specs.Routes.{ComesBy, Takes, end_if, hop, hop_by, hop_over, is_host, is_switch}
+use Rattle.ib_routes.specs.Routes.{ComesBy, Takes, end_if, hop, hop_by, hop_over, ends_at_host, ends_at_switch}
 use Rattle.ib_lane_routes.specs.declared.hop.LaneHop.{LaneHop}
 use Rattle.ib_lane_routes.specs.declared.hop.LaneHop.TheVariants.{On, Arrive, Stop, Discard}
 use Rattle.ib_lane_routes.specs.LaneFound.{link_of}
@@ -49,7 +49,7 @@ to_on false port lane next entry = (refl, refl)
 over_like : (owner : Option EndPort) (port lane : ℕ) (side : Side) → Like (hop_over owner port side) (lane_hop_over owner port lane side)
 over_like owner port lane Bare = refl
 over_like owner port lane (To next entry) = to_on (eqb lane 15) port lane next entry
-over_like owner port lane (End to) = end_on (is_host owner to) (eqb lane 15)
+over_like owner port lane (End to) = end_on (ends_at_host owner to) (eqb lane 15)
 
 cond_like : (b c : Bool) (owner : Option EndPort) (port lane : ℕ) (side : Side) → Like (cond b (end_if c) (hop_over owner port side)) (cond b (lane_end_if c) (lane_hop_over owner port lane side))
 cond_like true c owner port lane side = end_like c
@@ -57,7 +57,7 @@ cond_like false c owner port lane side = over_like owner port lane side
 
 by_like : (fabric : FabricOf) (lane_of : ℕ → ℕ) (switch lid : ℕ) (told : Option ℕ) → Like (hop_by fabric switch lid told) (lane_hop_by fabric lane_of switch lid told)
 by_like fabric lane_of switch lid None = refl
-by_like fabric lane_of switch lid (Some port) = cond_like (eqb port 0) (is_switch (owner_of fabric lid) switch) (owner_of fabric lid) port (lane_of port) (side_of fabric switch port)
+by_like fabric lane_of switch lid (Some port) = cond_like (eqb port 0) (ends_at_switch (owner_of fabric lid) switch) (owner_of fabric lid) port (lane_of port) (side_of fabric switch port)
 
 pub hop_like : (fabric : FabricOf) (tables : TablesOf) (lanes : LanesOf) (level lid : ℕ) (at : Spot) → Like (hop fabric tables at.switch lid) (lane_hop fabric tables lanes level lid at)
 unfolding hop lane_hop

@@ -11,7 +11,7 @@ use Rattle.ib_rows.specs.Lanes.{LanesOf}
 use Rattle.ib_rows.specs.PathLevels.{HasLevel, LevelsOf}
 use Rattle.ib_routes.specs.declared.traffic.Traffic.{Traffic}
 use Rattle.ib_routes.specs.declared.hop.Cause.TheVariants.{Missing, Dead, Wrong}
-use Rattle.ib_routes.specs.Routes.{Sends, is_host, is_switch}
+use Rattle.ib_routes.specs.Routes.{Sends, ends_at_host, ends_at_switch}
 use Rattle.ib_lane_routes.specs.declared.hop.LaneHop.{LaneHop}
 use Rattle.ib_lane_routes.specs.declared.hop.LaneHop.TheVariants.{On, Arrive, Stop, Discard}
 use Rattle.ib_lane_routes.specs.declared.hop.LaneOutcome.{LaneOutcome}
@@ -19,25 +19,25 @@ use Rattle.ib_lane_routes.specs.declared.hop.LaneOutcome.TheVariants.{Arrives, S
 
 -- Where a packet stands: a switch, and the port of it by which the packet came in. Port 0 is the switch itself.
 
--- at the owner of the LID, or at another
+-- at an end port where it arrives, or at another
 abbrev pub lane_end_if : Bool → LaneHop
-lane_end_if is_own = if is_own then Arrive else Stop Wrong
+lane_end_if arrives = if arrives then Arrive else Stop Wrong
 
 -- on lane 15 nothing leaves
 abbrev pub on_lane : ℕ → LaneHop → LaneHop
 on_lane lane does = if lane == 15 then Discard else does
 
--- by a port with this side, on a lane: on to the switch there, or to the end port, which has to own the LID
+-- by a port with this side, on a lane, and the owner of the LID: on to the switch there, or to the end port
 abbrev pub lane_hop_over : Option EndPort → ℕ → ℕ → Side → LaneHop
 lane_hop_over owner port lane Bare = Stop Dead
 lane_hop_over owner port lane (To next entry) = on_lane lane (On port lane (record { switch = next; port = entry }))
-lane_hop_over owner port lane (End end) = on_lane lane (lane_end_if (is_host owner end))
+lane_hop_over owner port lane (End end) = on_lane lane (lane_end_if (ends_at_host owner end))
 
 -- by what the table says, and the lane of each port: port 0 is the switch itself, and has no lane
 abbrev pub lane_hop_by : FabricOf → (ℕ → ℕ) → ℕ → ℕ → Option ℕ → LaneHop
 lane_hop_by fabric lane_of switch lid None = Stop Missing
 lane_hop_by fabric lane_of switch lid (Some port) = if port == 0
-    then lane_end_if (is_switch (owner_of fabric lid) switch)
+    then lane_end_if (ends_at_switch (owner_of fabric lid) switch)
     else lane_hop_over (owner_of fabric lid) port (lane_of port) (side_of fabric switch port)
 
 -- what a switch does with what came in by a port, has a level and goes to a LID
@@ -50,11 +50,11 @@ abbrev pub begin_of : FabricOf → EndPort → Option Spot
 begin_of fabric (Host end) = cable_of fabric end
 begin_of fabric (Switch switch) = Some (record { switch = switch; port = 0 })
 
--- an end port sends to a LID of another one, with a level: each level is a route of its own
-pub record LaneSends (fabric : FabricOf) (traffic : Traffic) (levels : LevelsOf) (lid : ℕ) (source : EndPort)
-    (level : ℕ)
+-- an end port sends to a LID with a level: each level is a route of its own
+pub record LaneSends (fabric : FabricOf) (tables : TablesOf) (traffic : Traffic) (levels : LevelsOf) (lid : ℕ)
+    (source : EndPort) (level : ℕ)
     : Type 0 where
-  pub sends : Sends fabric traffic lid source
+  pub sends : Sends fabric tables traffic lid source
   pub has : HasLevel levels source lid level
 
 -- from one place to another by so many hops, if each switch hops as told
@@ -67,7 +67,7 @@ LaneWalksBy hop_at (suc hops) start at =
 pub record LaneComesTo (fabric : FabricOf) (tables : TablesOf) (lanes : LanesOf) (traffic : Traffic)
     (levels : LevelsOf) (lid : ℕ) (source : EndPort) (level : ℕ) (at : Spot)
     : Type 0 where
-  pub sends : LaneSends fabric traffic levels lid source level
+  pub sends : LaneSends fabric tables traffic levels lid source level
   pub start : Spot
   pub begins : begin_of fabric source ≡ Some start
   pub hops : ℕ

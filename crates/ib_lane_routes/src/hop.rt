@@ -12,7 +12,7 @@ use crate::routing::LaneRouting;
 use ib_cells::cells::Cells;
 use ib_net::fabric::Fabric;
 use ib_net::node::{Side, Spot};
-use ib_routes::hop::{Cause, is_of_host, is_of_switch};
+use ib_routes::hop::{Cause, ends_at_host, ends_at_switch};
 use ib_rows::lanes::{DISCARD, LaneRows};
 
 /// What a switch does with what came in by a port, has a service level and goes to a LID.
@@ -20,7 +20,7 @@ use ib_rows::lanes::{DISCARD, LaneRows};
 pub enum LaneHop {
     /// It sends it out of this port, on this lane, to this port of a switch.
     On(u8, u8, Spot),
-    /// It hands it to the owner of the LID, which may be its own port 0.
+    /// It hands it to the owner of the LID, which may be its own port 0; if nobody owns the LID, to whichever end port.
     Arrive,
     /// It stops it, by this cause.
     Stop(Cause),
@@ -52,12 +52,12 @@ pub enum Exit {
     By(u8, Side),
 }
 
-// The end of a route, at its target or at a wrong place.
+// The end of a route, where it arrives or at a wrong place.
 #[inline]
-fn end_of(is_own: bool) -> LaneHop
-    ensures { result ≡ lane_end_if is_own }
+fn end_of(arrives: bool) -> LaneHop
+    ensures { result ≡ lane_end_if arrives }
 {
-    if is_own {
+    if arrives {
         LaneHop::Arrive
     } else {
         LaneHop::Stop(Cause::Wrong)
@@ -90,7 +90,7 @@ fn hop_by_side(fabric: &Fabric, lid: usize, port: u8, lane: u8, side: Side) -> L
             };
             sent_on(lane, LaneHop::On(port, lane, spot))
         }
-        Side::End(end) => sent_on(lane, end_of(is_of_host(fabric, lid, end))),
+        Side::End(end) => sent_on(lane, end_of(ends_at_host(fabric, lid, end))),
     }
 }
 
@@ -133,7 +133,7 @@ pub fn hop_through(
 {
     match exit {
         Exit::Nowhere => LaneHop::Stop(Cause::Missing),
-        Exit::Own => end_of(is_of_switch(fabric, lid, at.switch as usize)),
+        Exit::Own => end_of(ends_at_switch(fabric, lid, at.switch as usize)),
         Exit::By(port, side) => {
             let lane = lanes.lane(
                 at.switch as usize,

@@ -10,7 +10,7 @@ use ib_rows::lanes::LaneRows;
 use ib_rows::levels::Levels;
 
 /// What routes on lanes follow from: a fabric, its tables and its lanes, and a traffic with service levels. Tables and
-/// lanes have a place for each switch, and tables one for each LID that has an owner.
+/// lanes have a place for each switch, and tables one for each LID that has an owner; they may have more.
 #[derive(Clone, Copy, Drop)]
 pub struct LaneRouting<'a> {
     /// The fabric.

@@ -10,6 +10,7 @@ use Rattle.ib_rows.specs.Lanes.{IsLaneCount, LanesOf}
 use Rattle.ib_rows.specs.PathLevels.{LevelsOf}
 use Rattle.ib_routes.specs.declared.traffic.Traffic.{Traffic}
 use Rattle.ib_routes.specs.Routes.{IsSource}
+use Rattle.ib_routes.proofs.StartLemmas.{sender_is}
 use Rattle.ib_verdict.proofs.RankLemmas.{value}
 use Rattle.ib_lane_routes.specs.declared.hop.LaneHop.{LaneHop}
 use Rattle.ib_lane_routes.specs.declared.hop.LaneHop.TheVariants.{On, Arrive, Stop, Discard}
@@ -28,7 +29,7 @@ begins_at fabric traffic (port.Host end) is = let (start, begins, same) = start_
 begins_at fabric traffic (port.Switch switch) is = (record { switch = switch; port = 0 }, refl)
 
 module _ (fabric : FabricOf) (tables : TablesOf) (lanes : LanesOf) (traffic : Traffic) (levels : LevelsOf) where
-  module _ (rank : LaneChannel → ℕ) (fall : (channel next : LaneChannel) → LaneDependsOn fabric tables lanes traffic levels channel next → rank next < rank channel) (kept : (lid : ℕ) (source : EndPort) (level : ℕ) → IsLaneStopped fabric tables lanes traffic levels lid source level → ⊥) (lid : ℕ) (source : EndPort) (level : ℕ) (sends : LaneSends fabric traffic levels lid source level) (start : Spot) (begins : begin_of fabric source ≡ Some start) where
+  module _ (rank : LaneChannel → ℕ) (fall : (channel next : LaneChannel) → LaneDependsOn fabric tables lanes traffic levels channel next → rank next < rank channel) (kept : (lid : ℕ) (source : EndPort) (level : ℕ) → IsLaneStopped fabric tables lanes traffic levels lid source level → ⊥) (lid : ℕ) (source : EndPort) (level : ℕ) (sends : LaneSends fabric tables traffic levels lid source level) (start : Spot) (begins : begin_of fabric source ≡ Some start) where
     abbrev hop_at : Spot → LaneHop
     hop_at = lane_hop fabric tables lanes level lid
 
@@ -70,7 +71,7 @@ module _ (fabric : FabricOf) (tables : TablesOf) (lanes : LanesOf) (traffic : Tr
 
   pub arrive : (rank : LaneChannel → ℕ) → ((channel next : LaneChannel) → LaneDependsOn fabric tables lanes traffic levels channel next → rank next < rank channel) → ((lid : ℕ) (source : EndPort) (level : ℕ) → IsLaneStopped fabric tables lanes traffic levels lid source level → ⊥) → LaneAllArrive fabric tables lanes traffic levels
   arrive rank fall kept lid source level sends =
-      let (start, begins) = begins_at fabric traffic source sends.sends.is_source in
+      let (start, begins) = begins_at fabric traffic source (sender_is fabric tables traffic lid source sends.sends) in
       arrive_from rank fall kept lid source level sends start begins (lane_hop fabric tables lanes level lid start) refl
 
   module _ (count : ℕ) (counted : IsLaneCount lanes count) where

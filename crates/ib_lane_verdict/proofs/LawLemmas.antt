@@ -12,7 +12,7 @@ use Rattle.ib_net.specs.Fabric.{FabricOf}
 use Rattle.ib_routes.specs.declared.hop.Hop.{Hop}
 use Rattle.ib_routes.specs.declared.hop.Hop.TheVariants as one
 use Rattle.ib_routes.specs.declared.traffic.Traffic.{Traffic}
-use Rattle.ib_routes.specs.Routes.{Channel, ComesBy, DependsOn, hop}
+use Rattle.ib_routes.specs.Routes.{Channel, ComesBy, DependsOn, Sends, hop}
 use Rattle.ib_verdict.specs.Verdict.{AllArrive}
 use Rattle.ib_lane_routes.specs.declared.hop.LaneHop.TheVariants.{Discard}
 use Rattle.ib_lane_routes.specs.LaneFound.{link_of}
@@ -35,7 +35,7 @@ module _ (fabric : FabricOf) (tables : TablesOf) (lanes : LanesOf) where
     pub no_lane_cycle : HasNoCycle (DependsOn fabric tables traffic) → HasNoCycle (LaneDependsOn fabric tables lanes traffic levels)
     no_lane_cycle none start rest cycle = none (link_of start) (map link_of rest) (path_one start rest start cycle)
 
-    module _ (none : NoneIsDiscarded fabric tables lanes traffic levels) (lid : ℕ) (source : EndPort) (level : ℕ) (sends : LaneSends fabric traffic levels lid source level) (start : Spot) (begins : begin_of fabric source ≡ Some start) where
+    module _ (none : NoneIsDiscarded fabric tables lanes traffic levels) (lid : ℕ) (source : EndPort) (level : ℕ) (sends : LaneSends fabric tables traffic levels lid source level) (start : Spot) (begins : begin_of fabric source ≡ Some start) where
       kept : (hops : ℕ) (at : Spot) → LaneWalksBy (lane_hop fabric tables lanes level lid) hops start at → lane_hop fabric tables lanes level lid at ≡ Discard → ⊥
       kept hops at walk = none lid source level at (record { sends = sends; start = start; begins = begins; hops = hops; comes = walk })
 
@@ -71,11 +71,17 @@ module _ (fabric : FabricOf) (tables : TablesOf) (lanes : LanesOf) where
         let (start, begins, same) = start_begin fabric source by.start by.begins in
         (hops, ends_so none lid source level sends start begins hops by.at (subst (λ (s : ℕ). ComesBy fabric tables lid hops s by.at) (sym same) by.comes) by.arrives)
 
-  module _ (traffic : Traffic) (levels others : LevelsOf) (among : AreLevelsAmong levels others) where
-    sends_more : (lid : ℕ) (source : EndPort) (level : ℕ) → LaneSends fabric traffic levels lid source level → LaneSends fabric traffic others lid source level
-    sends_more lid source level sends = record { sends = sends.sends; has = among source lid level sends.has }
+  -- what sends with levels sends with more
+  pub sends_among : (traffic : Traffic) (levels others : LevelsOf) → AreLevelsAmong levels others → (lid : ℕ) (source : EndPort) (level : ℕ) → LaneSends fabric tables traffic levels lid source level → LaneSends fabric tables traffic others lid source level
+  sends_among traffic levels others among lid source level sends = record { sends = sends.sends; has = among source lid level sends.has }
 
-    pub depends_more : (channel next : LaneChannel) → LaneDependsOn fabric tables lanes traffic levels channel next → LaneDependsOn fabric tables lanes traffic others channel next
+  -- .. and what sends by a traffic does so by a greater one
+  pub sends_greater : (traffic greater : Traffic) (levels : LevelsOf) → ((lid : ℕ) (source : EndPort) → Sends fabric tables traffic lid source → Sends fabric tables greater lid source) → (lid : ℕ) (source : EndPort) (level : ℕ) → LaneSends fabric tables traffic levels lid source level → LaneSends fabric tables greater levels lid source level
+  sends_greater traffic greater levels more lid source level sends = record { sends = more lid source sends.sends; has = sends.has }
+
+  -- more routes, more dependencies
+  module _ (traffic greater : Traffic) (levels others : LevelsOf) (more : (lid : ℕ) (source : EndPort) (level : ℕ) → LaneSends fabric tables traffic levels lid source level → LaneSends fabric tables greater others lid source level) where
+    pub depends_more : (channel next : LaneChannel) → LaneDependsOn fabric tables lanes traffic levels channel next → LaneDependsOn fabric tables lanes greater others channel next
     depends_more channel next (lid, source, level, takes) =
         let comes = takes.comes in (
           lid,
@@ -83,7 +89,7 @@ module _ (fabric : FabricOf) (tables : TablesOf) (lanes : LanesOf) where
           level,
           record {
             entry = takes.entry;
-            comes = record { sends = sends_more lid source level comes.sends; start = comes.start; begins = comes.begins; hops = comes.hops; comes = comes.comes };
+            comes = record { sends = more lid source level comes.sends; start = comes.start; begins = comes.begins; hops = comes.hops; comes = comes.comes };
             next_entry = takes.next_entry;
             first = takes.first;
             after = takes.after;
@@ -91,10 +97,10 @@ module _ (fabric : FabricOf) (tables : TablesOf) (lanes : LanesOf) where
           },
         )
 
-    pub passes_more : HasNoCycle (LaneDependsOn fabric tables lanes traffic others) → LaneAllArrive fabric tables lanes traffic others → HasNoCycle (LaneDependsOn fabric tables lanes traffic levels) × LaneAllArrive fabric tables lanes traffic levels
+    pub passes_more : HasNoCycle (LaneDependsOn fabric tables lanes greater others) → LaneAllArrive fabric tables lanes greater others → HasNoCycle (LaneDependsOn fabric tables lanes traffic levels) × LaneAllArrive fabric tables lanes traffic levels
     passes_more none arrive = (
-      more_steps (LaneDependsOn fabric tables lanes traffic levels) (LaneDependsOn fabric tables lanes traffic others) depends_more none,
-      λ lid source level sends. arrive lid source level (sends_more lid source level sends),
+      more_steps (LaneDependsOn fabric tables lanes traffic levels) (LaneDependsOn fabric tables lanes greater others) depends_more none,
+      λ lid source level sends. arrive lid source level (more lid source level sends),
     )
 
 -- all sixteen

@@ -44,7 +44,7 @@ pub record LaneArrivesBy (fabric : FabricOf) (tables : TablesOf) (lanes : LanesO
 
 abbrev pub LaneAllArrive : FabricOf → TablesOf → LanesOf → Traffic → LevelsOf → Type 0
 LaneAllArrive fabric tables lanes traffic levels =
-    (lid : ℕ) (source : EndPort) (level : ℕ) → LaneSends fabric traffic levels lid source level
+    (lid : ℕ) (source : EndPort) (level : ℕ) → LaneSends fabric tables traffic levels lid source level
     → (links : ℕ) × LaneArrivesBy fabric tables lanes lid source level links
 
 -- by switch, then by port, then by lane

@@ -1,4 +1,4 @@
-//! What lanes and service levels change. No function here has code.
+//! What lanes and service levels change. No function here has code but the call of a law.
 
 ghost use Rattle.std.specs.Prelude.{◌≡◌, ℕ};
 ghost use Rattle.channel_graph.specs.Cycles.{HasNoCycle};
@@ -11,7 +11,10 @@ ghost use Rattle.ib_routes.specs.Routes.{DependsOn};
 ghost use Rattle.ib_lane_routes.specs.LaneFound.{link_of};
 ghost use Rattle.ib_lane_routes.specs.LaneRoutes.{LaneChannel, LaneDependsOn};
 ghost use Rattle.ib_lane_verdict.specs.LaneVerdict.{LaneAllArrive, NoneIsDiscarded, any_level};
+ghost use Rattle.ib_verdict.specs.Traffics.{IsNoMore};
 ghost use Rattle.ib_verdict.specs.Verdict.{AllArrive};
+
+use ib_verdict::law::fewer_routes_fewer_dependencies;
 
 /// One lane suffices: tables without a credit loop on one lane have none with any lanes, whatever the service levels with
 /// which end ports send. If all routes arrive on one lane, they all arrive with any lanes that discard none of them.
@@ -49,3 +52,21 @@ pub fn more_levels_more_dependencies()
         → HasNoCycle (LaneDependsOn fabric tables lanes traffic levels)
         × LaneAllArrive fabric tables lanes traffic levels }
 {}
+
+/// Fewer routes, fewer dependencies, on lanes too. Of two traffics the one may stand before the other in `hosts`, `lids`,
+/// `managed`, `all`, `rows`. Then what depends by the one depends by the other, so what passes for the other passes for the
+/// one.
+pub fn fewer_routes_fewer_lane_dependencies()
+    ensures depends { (fabric : FabricOf) (tables : TablesOf) (lanes : LanesOf) (one other : Traffic)
+        (levels : LevelsOf) (channel next : LaneChannel)
+        → IsNoMore one other → LaneDependsOn fabric tables lanes one levels channel next
+        → LaneDependsOn fabric tables lanes other levels channel next }
+    ensures pass { (fabric : FabricOf) (tables : TablesOf) (lanes : LanesOf) (one other : Traffic)
+        (levels : LevelsOf)
+        → IsNoMore one other → HasNoCycle (LaneDependsOn fabric tables lanes other levels)
+        → LaneAllArrive fabric tables lanes other levels
+        → HasNoCycle (LaneDependsOn fabric tables lanes one levels)
+        × LaneAllArrive fabric tables lanes one levels }
+{
+    fewer_routes_fewer_dependencies();
+}

@@ -11,6 +11,7 @@ use Rattle.ib_net.specs.Fabric.{FabricOf, switch_count}
 use Rattle.ib_routes.specs.declared.traffic.Traffic.{Traffic}
 use Rattle.ib_routes.specs.Routes.{IsSource}
 use Rattle.ib_routes.specs.Waves.{HasBit}
+use Rattle.ib_routes.proofs.StartLemmas.{sender_is}
 use Rattle.ib_lane_routes.specs.declared.hop.LaneHop.{LaneHop}
 use Rattle.ib_lane_routes.specs.declared.hop.LaneHop.TheVariants.{On}
 use Rattle.ib_lane_routes.specs.LaneRoutes.{IsLaneStop, LaneSends, begin_of, lane_hop}
@@ -189,31 +190,32 @@ module _ (routes : BlockRoutes) where
       }
 
   -- of all gates: just the routes of the traffic have begun
-  module _ (traffic : Traffic) (levels : LevelsOf) (spots : List Spot) (gates : List (Option ℕ)) (are : AreGates fabric lanes traffic spots gates) (top : ℕ) (sent : List ℕ) (sends : AreSent fabric traffic levels gates (length spots) routes.block top sent) where
+  module _ (traffic : Traffic) (levels : LevelsOf) (spots : List Spot) (gates : List (Option ℕ)) (are : AreGates fabric lanes traffic spots gates) (top : ℕ) (sent : List ℕ) (sends : AreSent fabric tables traffic levels gates (length spots) routes.block top sent) where
     abbrev OfGates : Spot → ℕ → ℕ → Type 0
     OfGates = IsOfGates spots sent top
 
     module _ (top_is : (source : EndPort) (lid level : ℕ) → HasLevel levels source lid level → level < top) (old new : List ℕ) (none : (place bit : ℕ) → HasBit old place bit → ⊥) (had told : Bool) (begun : Begun OfGates old new had told) where
       -- what a gate begins, an end port begins
-      gate_source : (gate lid level : ℕ) (spot : Spot) → slice_get spots gate ≡ Some spot → IsSentFrom fabric traffic levels gates gate lid level → (source : EndPort) × (start : Spot) × LaneSends fabric traffic levels lid source level × (begin_of fabric source ≡ Some start) × AreAlike lanes spot start
+      gate_source : (gate lid level : ℕ) (spot : Spot) → slice_get spots gate ≡ Some spot → IsSentFrom fabric tables traffic levels gates gate lid level → (source : EndPort) × (start : Spot) × LaneSends fabric tables traffic levels lid source level × (begin_of fabric source ≡ Some start) × AreAlike lanes spot start
       gate_source gate lid level spot stands from =
           let of : IsGateOf fabric lanes traffic spots (source_at fabric from.place) gate = subst (λ (o : Option ℕ). MatchOption o (IsSource fabric traffic (source_at fabric from.place) → ⊥) (IsGateOf fabric lanes traffic spots (source_at fabric from.place))) from.is (are.all.each from.place (let size = are.size in let low = from.low in omega arith)) in
           let same = some_spot of.serves.spot spot (sym of.serves.stands ∙ stands) in
           (source_at fabric from.place, of.start, from.sends, of.begins, subst (λ (x : Spot). AreAlike lanes x of.start) same of.serves.alike)
 
       -- and what an end port begins, its gate does
-      source_gate : (source : EndPort) (lid level : ℕ) (start : Spot) → LaneSends fabric traffic levels lid source level → begin_of fabric source ≡ Some start → (gate : ℕ) × (spot : Spot) × (slice_get spots gate ≡ Some spot) × AreAlike lanes spot start × IsSentFrom fabric traffic levels gates gate lid level
+      source_gate : (source : EndPort) (lid level : ℕ) (start : Spot) → LaneSends fabric tables traffic levels lid source level → begin_of fabric source ≡ Some start → (gate : ℕ) × (spot : Spot) × (slice_get spots gate ≡ Some spot) × AreAlike lanes spot start × IsSentFrom fabric tables traffic levels gates gate lid level
       source_gate source lid level start sends begins =
-          let (place, low, at) = source_place fabric traffic source sends.sends.is_source in
+          let from = sender_is fabric tables traffic lid source sends.sends in
+          let (place, low, at) = source_place fabric traffic source from in
           let within : place < length gates = (let size = are.size in omega arith) in
-          let is_source : IsSource fabric traffic (source_at fabric place) = subst (IsSource fabric traffic) (sym at) sends.sends.is_source in
+          let is_source : IsSource fabric traffic (source_at fabric place) = subst (IsSource fabric traffic) (sym at) from in
           let (gate, is, of) = gate_there_of fabric lanes traffic spots (source_at fabric place) (slice_index_or gates place None) (are.all.each place low) is_source in
           let same = some_spot of.start start (sym of.begins ∙ ap (begin_of fabric) at ∙ begins) in (
             gate,
             of.serves.spot,
             of.serves.stands,
             subst (AreAlike lanes of.serves.spot) same of.serves.alike,
-            record { place = place; low = within; is = is; sends = subst (λ (s : EndPort). LaneSends fabric traffic levels lid s level) (sym at) sends },
+            record { place = place; low = within; is = is; sends = subst (λ (s : EndPort). LaneSends fabric tables traffic levels lid s level) (sym at) sends },
           )
 
       pub all_begun : AreBegun fabric tables lanes count traffic levels routes.block new had told

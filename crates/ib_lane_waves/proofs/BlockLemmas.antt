@@ -126,7 +126,7 @@ module _ (fabric : FabricOf) (fits : IsFabric fabric) (tables : TablesOf) (lanes
     reached_departs bit at low is = spread_departs bit is.steps is.start at low is.has is.spreads
 
     -- and what departs is reached
-    walk_reached : (bit : ℕ) → bit < 64 → (source : EndPort) (level : ℕ) → LaneSends fabric traffic levels (64 * block + bit) source level → (start : Spot) → begin_of fabric source ≡ Some start → (hops : ℕ) (spot : Spot) → LaneWalksBy (lane_hop fabric tables lanes level (64 * block + bit)) hops start spot → (port lane : ℕ) (next : Spot) → lane_hop fabric tables lanes level (64 * block + bit) spot ≡ On port lane next → IsReached Step Stops old.seen bit (departure_place (switch_count fabric) count level spot.switch lane)
+    walk_reached : (bit : ℕ) → bit < 64 → (source : EndPort) (level : ℕ) → LaneSends fabric tables traffic levels (64 * block + bit) source level → (start : Spot) → begin_of fabric source ≡ Some start → (hops : ℕ) (spot : Spot) → LaneWalksBy (lane_hop fabric tables lanes level (64 * block + bit)) hops start spot → (port lane : ℕ) (next : Spot) → lane_hop fabric tables lanes level (64 * block + bit) spot ≡ On port lane next → IsReached Step Stops old.seen bit (departure_place (switch_count fabric) count level spot.switch lane)
     walk_reached bit low source level sends start begins zero spot same port lane next goes =
         let first : lane_hop fabric tables lanes level (64 * block + bit) start ≡ On port lane next = ap (lane_hop fabric tables lanes level (64 * block + bit)) same ∙ goes in
         record {
@@ -188,7 +188,7 @@ module _ (fabric : FabricOf) (fits : IsFabric fabric) (tables : TablesOf) (lanes
         )
 
     -- a route that stops does so at its first switch, or after a place that is reached
-    stopped_reached : (bit : ℕ) → bit < 64 → (source : EndPort) (level : ℕ) → LaneSends fabric traffic levels (64 * block + bit) source level → (start : Spot) → begin_of fabric source ≡ Some start → (hops : ℕ) (at : Spot) → LaneWalksBy (lane_hop fabric tables lanes level (64 * block + bit)) hops start at → IsLaneStop (lane_hop fabric tables lanes level (64 * block + bit) at) → StopsAtFirst fabric tables lanes count traffic levels (64 * block + bit) ⊎ ((place : ℕ) × IsReached Step Stops old.seen bit place × Stops bit place)
+    stopped_reached : (bit : ℕ) → bit < 64 → (source : EndPort) (level : ℕ) → LaneSends fabric tables traffic levels (64 * block + bit) source level → (start : Spot) → begin_of fabric source ≡ Some start → (hops : ℕ) (at : Spot) → LaneWalksBy (lane_hop fabric tables lanes level (64 * block + bit)) hops start at → IsLaneStop (lane_hop fabric tables lanes level (64 * block + bit) at) → StopsAtFirst fabric tables lanes count traffic levels (64 * block + bit) ⊎ ((place : ℕ) × IsReached Step Stops old.seen bit place × Stops bit place)
     stopped_reached bit low source level sends start begins zero at same stops = inl (record {
       source = source;
       level = level;

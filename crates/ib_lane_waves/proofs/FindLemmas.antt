@@ -76,18 +76,10 @@ module _ (fabric : FabricOf) (tables : TablesOf) (lanes : LanesOf) (count : ℕ)
       bases = waved.bases ∙ found.bases;
     }
 
-  -- to a LID beyond all blocks no one sends
-  module _ (blocks : ℕ) (owners : length fabric.owners ≤ 64 * blocks) where
-    pub sent_low : (lid : ℕ) (source : EndPort) → Sends fabric traffic lid source → lid < 64 * blocks
-    sent_low lid source sends = elim (cases_lt lid (64 * blocks)) [
-      | inl low ↦ low
-      | inr high ↦ absurd (let past = get_or_past fabric.owners lid None (omega arith) in let owns = sends.owns in cc)
-    ]
-
-  pub all_stopped : (blocks : ℕ) → length fabric.owners ≤ 64 * blocks → (old new : GraphOf) (told : Bool) → AreLaneFoundBelow fabric tables lanes count traffic levels (64 * blocks) old new told → ((told ≡ true) ↔ SomeIsLaneStopped fabric tables lanes traffic levels)
-  all_stopped blocks owners old new told found = (
+  pub all_stopped : (blocks : ℕ) → ((lid : ℕ) (source : EndPort) → Sends fabric tables traffic lid source → lid < 64 * blocks) → (old new : GraphOf) (told : Bool) → AreLaneFoundBelow fabric tables lanes count traffic levels (64 * blocks) old new told → ((told ≡ true) ↔ SomeIsLaneStopped fabric tables lanes traffic levels)
+  all_stopped blocks low_of old new told found = (
     λ is. (let (lid, low, some) = found.stopped.0 is in (lid, some)),
-    λ (lid, (source, (level, stopped))). found.stopped.1 (lid, sent_low blocks owners lid source stopped.1.sends.sends, (source, (level, stopped))),
+    λ (lid, (source, (level, stopped))). found.stopped.1 (lid, low_of lid source stopped.1.sends.sends, (source, (level, stopped))),
   )
 
   -- the two channels that a route takes are channels
@@ -113,8 +105,8 @@ module _ (fabric : FabricOf) (tables : TablesOf) (lanes : LanesOf) (count : ℕ)
         let inner = same_from_place a.switch (a.port - 1) b.switch (b.port - 1) fabric.most (omega arith) (omega arith) outer.0 in
         same_channel a b inner.0 (let p = inner.1 in omega arith) outer.1
 
-    pub all_found : (blocks : ℕ) → length fabric.owners ≤ 64 * blocks → (old new : GraphOf) (told : Bool) → IsLaneGraphOf fabric count old → ((one other : ℕ) → LeadsTo old one other → ⊥) → AreLaneFoundBelow fabric tables lanes count traffic levels (64 * blocks) old new told → AreLaneDependencies fabric tables lanes count traffic levels new
-    all_found blocks owners old new told rows none found = record {
+    pub all_found : (blocks : ℕ) → ((lid : ℕ) (source : EndPort) → Sends fabric tables traffic lid source → lid < 64 * blocks) → (old new : GraphOf) (told : Bool) → IsLaneGraphOf fabric count old → ((one other : ℕ) → LeadsTo old one other → ⊥) → AreLaneFoundBelow fabric tables lanes count traffic levels (64 * blocks) old new told → AreLaneDependencies fabric tables lanes count traffic levels new
+    all_found blocks low_of old new told rows none found = record {
       nodes = ap (λ (xs : List ℕ). length xs) found.bases ∙ rows.nodes;
       exact = λ channel next is_channel is_next. (
         λ leads. elim ((found.leads (lane_number fabric count channel) (lane_number fabric count next)).0 leads) [
@@ -131,7 +123,7 @@ module _ (fabric : FabricOf) (tables : TablesOf) (lanes : LanesOf) (count : ℕ)
         ],
         λ (lid, source, level, takes). (found.leads (lane_number fabric count channel) (lane_number fabric count next)).1 (inr (
           lid,
-          sent_low blocks owners lid source takes.comes.sends.sends,
+          low_of lid source takes.comes.sends.sends,
           record { source = source; level = level; channel = channel; next = next; takes = takes; is_one = refl; is_other = refl },
         )),
       );

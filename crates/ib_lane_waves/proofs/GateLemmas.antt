@@ -58,7 +58,7 @@ place_back fabric place low = elim (cases_lt place (length fabric.cables)) [
 -- a source has a place
 pub source_place : (fabric : FabricOf) (traffic : Traffic) (source : EndPort) → IsSource fabric traffic source → (place : ℕ) × (place < source_count fabric) × (source_at fabric place ≡ source)
 source_place fabric traffic (Host end) (switch, is) =
-    let low = cabled_low fabric traffic end switch is in
+    let low = cabled_low fabric end switch is in
     (end, omega arith, host_at fabric end low)
 source_place fabric traffic (Switch switch) is =
     let low = source_low fabric traffic switch is in

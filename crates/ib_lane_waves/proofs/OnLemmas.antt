@@ -8,7 +8,7 @@ use Rattle.ib_net.specs.declared.node.Side.TheVariants.{To}
 use Rattle.ib_net.specs.declared.node.Spot.{Spot}
 use Rattle.ib_net.specs.Fabric.{FabricOf, IsFabric, owner_of, side_of, switch_count}
 use Rattle.ib_routes.specs.Found.{IsChannel}
-use Rattle.ib_routes.specs.Routes.{Channel, is_switch}
+use Rattle.ib_routes.specs.Routes.{Channel, ends_at_switch}
 use Rattle.ib_routes.proofs.ChannelLemmas.{channel_place}
 use Rattle.ib_lane_routes.specs.declared.hop.LaneHop.TheVariants.{On}
 use Rattle.ib_lane_routes.specs.LaneRoutes.{lane_end_if, lane_hop, lane_hop_by, lane_hop_over}
@@ -49,7 +49,7 @@ cond_alike b c owner port one other side same = ap (λ (n : ℕ). cond b (lane_e
 
 by_alike : (fabric : FabricOf) (one other : ℕ → ℕ) (switch lid : ℕ) (told : Option ℕ) → ((port : ℕ) → one port ≡ other port) → lane_hop_by fabric one switch lid told ≡ lane_hop_by fabric other switch lid told
 by_alike fabric one other switch lid None same = refl
-by_alike fabric one other switch lid (Some port) same = cond_alike (eqb port 0) (is_switch (owner_of fabric lid) switch) (owner_of fabric lid) port (one port) (other port) (side_of fabric switch port) (same port)
+by_alike fabric one other switch lid (Some port) same = cond_alike (eqb port 0) (ends_at_switch (owner_of fabric lid) switch) (owner_of fabric lid) port (one port) (other port) (side_of fabric switch port) (same port)
 
 pub alike_hop : (fabric : FabricOf) (tables : TablesOf) (lanes : LanesOf) (level lid : ℕ) (one other : Spot) → AreAlike lanes one other → lane_hop fabric tables lanes level lid one ≡ lane_hop fabric tables lanes level lid other
 unfolding lane_hop

@@ -1,21 +1,22 @@
 -- The LIDs to which gates send, end port after end port.
-use Rattle.std.proofs.Common.{◌≡◌, ◌∙◌, sym, ap, subst, ℕ, ◌+◌, ◌*◌, ◌<◌, List, Option, Some, None, arith, length, get_or, replicate, inl, inr, ◌↔◌}
+use Rattle.std.proofs.Common.{◌≡◌, ◌≢◌, ◌∙◌, sym, ap, subst, ℕ, ◌+◌, ◌*◌, ◌^◌, ◌<◌, List, Option, Some, None, arith, length, get_or, replicate, inl, inr, ◌↔◌}
 use Rattle.std.specs.Int.{bit_at}
 use Rattle.std.proofs.lemmas.Bool.{cases_lt}
 use Rattle.std.proofs.lemmas.List.{get_or-replicate, get_or_past, length-replicate}
 use Rattle.std.proofs.lemmas.Nat.{same_from_place}
 use Rattle.std.proofs.lemmas.Nat.Bits.{bit_at-zero}
-use Rattle.ib_net.specs.Fabric.{FabricOf}
+use Rattle.ib_cells.specs.Cells.{TablesOf}
+use Rattle.ib_net.specs.declared.node.EndPort.{EndPort}
+use Rattle.ib_net.specs.Fabric.{FabricOf, owner_of}
 use Rattle.ib_rows.specs.PathLevels.{AreLevelsBelow, HasLevel, LevelsOf}
 use Rattle.ib_routes.specs.declared.traffic.Traffic.{Traffic}
-use Rattle.ib_routes.specs.Routes.{IsSource, Sends}
-use Rattle.ib_routes.specs.Starts.{AreTargets}
+use Rattle.ib_routes.specs.Routes.{Sends}
 use Rattle.ib_routes.specs.Waves.{HasBit}
-use Rattle.ib_routes.proofs.StartLemmas.{no_owner, sends_of}
 use Rattle.ib_routes.proofs.WordLemmas.{bit_or_not}
 use Rattle.ib_lane_routes.specs.LaneRoutes.{LaneSends}
 use Rattle.ib_lane_waves.specs.LaneBlocks.{AreOwned, AreSent, AreSetBy, StandsAlready}
 use Rattle.ib_lane_waves.specs.LaneGates.{source_at, source_count}
+use Rattle.ib_lane_waves.proofs.LevelLemmas.{bit_below}
 use Rattle.ib_lane_waves.proofs.SetLemmas.{set_had}
 
 -- words that are 0 have no bit
@@ -32,24 +33,29 @@ no_bits count place bit has =
 some_gate : (a b : ℕ) → Some a ≡ Some b → a ≡ b
 some_gate a b same = cc
 
-module _ (fabric : FabricOf) (traffic : Traffic) (block : ℕ) where
-  -- the LIDs of a block to which an end port sends: the targets that it does not own
-  pub word_sends : (place targets word : ℕ) (owned : List ℕ) → place < source_count fabric → IsSource fabric traffic (source_at fabric place) → AreTargets fabric traffic block targets → AreOwned fabric block owned → ((bit : ℕ) → ((bit_at word bit ≡ 1) ↔ ((bit_at targets bit ≡ 1) × (bit_at (get_or owned place 0) bit ≡ 1 → ⊥)))) → (bit : ℕ) → ((bit_at word bit ≡ 1) ↔ ((bit < 64) × Sends fabric traffic (64 * block + bit) (source_at fabric place)))
-  word_sends place targets word owned low source are own is_word bit = (
-    λ is.
-        let both = (is_word bit).0 is in
-        let target = (are bit).0 both.0 in
-        (target.0, sends_of fabric traffic (64 * block + bit) (source_at fabric place) source target.1 (λ owns. both.1 ((own place bit low target.0).1 owns))),
-    λ (fits, sends). (is_word bit).1 (
-      (are bit).1 (fits, (sends.owner, sends.owns, sends.is_target)),
-      λ has. no_owner fabric traffic (64 * block + bit) (source_at fabric place) ((own place bit low fits).0 has) sends,
-    ),
+module _ (fabric : FabricOf) (tables : TablesOf) (traffic : Traffic) (block : ℕ) where
+  -- who sends to a LID does not own it
+  sends_other : (lid : ℕ) (source : EndPort) → Sends fabric tables traffic lid source → owner_of fabric lid ≢ Some source
+  sends_other lid source (inl sends) owns = sends.other (let has = sends.owns in cc)
+  sends_other lid source (inr sends) owns = (let none = sends.unowned in cc)
+
+  -- to these LIDs of a block an end port sends, but for its own
+  abbrev pub SentByAll : ℕ → EndPort → Type 0
+  SentByAll all source = (bit : ℕ) → owner_of fabric (64 * block + bit) ≢ Some source → ((bit_at all bit ≡ 1) ↔ ((bit < 64) × Sends fabric tables traffic (64 * block + bit) source))
+
+  -- the LIDs of a block to which an end port sends: these, without its own
+  pub word_sends : (place all word : ℕ) (owned : List ℕ) → place < source_count fabric → AreOwned fabric block owned → all < 2 ^ 64 → SentByAll all (source_at fabric place) → ((bit : ℕ) → ((bit_at word bit ≡ 1) ↔ ((bit_at all bit ≡ 1) × (bit_at (get_or owned place 0) bit ≡ 1 → ⊥)))) → (bit : ℕ) → ((bit_at word bit ≡ 1) ↔ ((bit < 64) × Sends fabric tables traffic (64 * block + bit) (source_at fabric place)))
+  word_sends place all word owned low own small is_all is_word bit = (
+    λ is. (let both = (is_word bit).0 is in (is_all bit (λ owns. both.1 ((own place bit low (bit_below all 64 bit small both.0)).1 owns))).0 both.0),
+    λ (fits, sends).
+        let other = sends_other (64 * block + bit) (source_at fabric place) sends in
+        (is_word bit).1 ((is_all bit other).1 (fits, sends), λ has. other ((own place bit low fits).0 has)),
   )
 
   module _ (levels : LevelsOf) (gates : List (Option ℕ)) (top : ℕ) where
     -- one of the first end ports, of a gate, sends with a level
     abbrev pub SentBelow : ℕ → ℕ → ℕ → ℕ → Type 0
-    SentBelow end gate level bit = (place : ℕ) × (place < end) × (get_or gates place None ≡ Some gate) × LaneSends fabric traffic levels (64 * block + bit) (source_at fabric place) level
+    SentBelow end gate level bit = (place : ℕ) × (place < end) × (get_or gates place None ≡ Some gate) × LaneSends fabric tables traffic levels (64 * block + bit) (source_at fabric place) level
 
     abbrev pub AreSentBelow : ℕ → List ℕ → Type 0
     AreSentBelow end words = (gate level bit : ℕ) → level < top → (HasBit words (gate * top + level) bit ↔ ((bit < 64) × SentBelow end gate level bit))
@@ -74,7 +80,7 @@ module _ (fabric : FabricOf) (traffic : Traffic) (block : ℕ) where
     abbrev pub Sent : ℕ → ℕ → ℕ → ℕ → ℕ → Type 0
     Sent end row word place bit = (level : ℕ) × HasLevel levels (source_at fabric end) (64 * block + bit) level × (place ≡ row + level) × (bit_at word bit ≡ 1)
 
-    pub sent_more : (end of word : ℕ) (old new : List ℕ) → AreLevelsBelow levels top → get_or gates end None ≡ Some of → ((bit : ℕ) → ((bit_at word bit ≡ 1) ↔ ((bit < 64) × Sends fabric traffic (64 * block + bit) (source_at fabric end)))) → AreSetBy old new (Sent end (of * top) word) → AreSentBelow end old → AreSentBelow (end + 1) new
+    pub sent_more : (end of word : ℕ) (old new : List ℕ) → AreLevelsBelow levels top → get_or gates end None ≡ Some of → ((bit : ℕ) → ((bit_at word bit ≡ 1) ↔ ((bit < 64) × Sends fabric tables traffic (64 * block + bit) (source_at fabric end)))) → AreSetBy old new (Sent end (of * top) word) → AreSentBelow end old → AreSentBelow (end + 1) new
     sent_more end of word old new below here is_word more are gate level bit low = (
       λ has. elim ((more.1 (gate * top + level) bit).0 has) [
         | inl had ↦ (let (fits, (place, before, is, sends)) = (are gate level bit low).0 had in (fits, (place, omega arith, is, sends)))
@@ -95,29 +101,25 @@ module _ (fabric : FabricOf) (traffic : Traffic) (block : ℕ) where
         | inr last ↦ (
             let same : place ≡ end = omega arith in
             let one = some_gate gate of (sym is ∙ ap (λ (k : ℕ). get_or gates k None) same ∙ here) in
-            let by : LaneSends fabric traffic levels (64 * block + bit) (source_at fabric end) level = subst (λ (k : ℕ). LaneSends fabric traffic levels (64 * block + bit) (source_at fabric k) level) same sends in
+            let by : LaneSends fabric tables traffic levels (64 * block + bit) (source_at fabric end) level = subst (λ (k : ℕ). LaneSends fabric tables traffic levels (64 * block + bit) (source_at fabric k) level) same sends in
             (more.1 (gate * top + level) bit).1 (inr (level, by.has, ap (λ (k : ℕ). k * top + level) one, (is_word bit).1 (fits, by.sends))))
       ],
     )
 
     -- what stands already in the words of the gate, since one before sends so
-    pub sent_had : (targets : ℕ) (owned : List ℕ) (end of word had rest : ℕ) (old new : List ℕ) → AreTargets fabric traffic block targets → AreOwned fabric block owned → end < source_count fabric → ((one : ℕ) → one < source_count fabric → get_or gates one None ≡ Some of → IsSource fabric traffic (source_at fabric one)) → ((bit : ℕ) → bit_at had bit ≡ 1 → StandsAlready fabric levels targets block gates owned end of bit) → ((bit : ℕ) → ((bit_at rest bit ≡ 1) ↔ ((bit_at word bit ≡ 1) × (bit_at had bit ≡ 1 → ⊥)))) → AreLevelsBelow levels top → AreSentBelow end old → AreSetBy old new (Sent end (of * top) rest) → AreSetBy old new (Sent end (of * top) word)
-    sent_had targets owned end of word had rest old new are_targets are_owned end_low sources stood is_rest below are more = set_had (Sent end (of * top) word) (Sent end (of * top) rest) old new
+    pub sent_had : (end of word had rest : ℕ) (old new : List ℕ) → ((bit : ℕ) → ((bit_at word bit ≡ 1) ↔ ((bit < 64) × Sends fabric tables traffic (64 * block + bit) (source_at fabric end)))) → ((bit : ℕ) → bit_at had bit ≡ 1 → StandsAlready fabric tables traffic levels block gates end of bit) → ((bit : ℕ) → ((bit_at rest bit ≡ 1) ↔ ((bit_at word bit ≡ 1) × (bit_at had bit ≡ 1 → ⊥)))) → AreLevelsBelow levels top → AreSentBelow end old → AreSetBy old new (Sent end (of * top) rest) → AreSetBy old new (Sent end (of * top) word)
+    sent_had end of word had rest old new is_word stood is_rest below are more = set_had (Sent end (of * top) word) (Sent end (of * top) rest) old new
         (λ place bit (level, is, at, in_word). elim (bit_or_not had bit) [
           | inl stands ↦ (
               let s = stood bit stands in
-              let less = s.less in
-              let low : s.before < source_count fabric = omega arith in
-              let target = (are_targets bit).0 s.target in
-              let sends = sends_of fabric traffic (64 * block + bit) (source_at fabric s.before) (sources s.before low s.same) target.1 (λ owns. s.not_own ((are_owned s.before bit low target.0).1 owns)) in
               let with : HasLevel levels (source_at fabric s.before) (64 * block + bit) level = (is.0, ap (λ (n : ℕ). bit_at n level) (sym s.levels_are) ∙ is.1) in
-              inr (subst (λ (k : ℕ). HasBit old k bit) (sym at) ((are of level bit (below (source_at fabric end) (64 * block + bit) level is)).1 (target.0, (s.before, less, s.same, record { sends = sends; has = with })))))
+              inr (subst (λ (k : ℕ). HasBit old k bit) (sym at) ((are of level bit (below (source_at fabric end) (64 * block + bit) level is)).1 (((is_word bit).0 in_word).0, (s.before, s.less, s.same, record { sends = s.sends; has = with })))))
           | inr not ↦ inl (level, is, at, (is_rest bit).1 (in_word, not))
         ])
         (λ place bit (level, is, at, in_rest). (level, is, at, ((is_rest bit).0 in_rest).0))
         more
 
-    pub all_sent : (count : ℕ) (words : List ℕ) → AreSentBelow (length gates) words → AreSent fabric traffic levels gates count block top words
+    pub all_sent : (count : ℕ) (words : List ℕ) → AreSentBelow (length gates) words → AreSent fabric tables traffic levels gates count block top words
     all_sent count words are gate level bit within low fits = (
       λ has. (let (fit, (place, before, is, sends)) = (are gate level bit low).0 has in record { place = place; low = before; is = is; sends = sends }),
       λ from. (are gate level bit low).1 (fits, (from.place, from.low, from.is, from.sends)),

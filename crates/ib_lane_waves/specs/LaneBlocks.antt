@@ -11,6 +11,9 @@ use Rattle.ib_net.specs.declared.node.EndPort.{EndPort}
 use Rattle.ib_net.specs.declared.node.Spot.{Spot}
 use Rattle.ib_net.specs.Fabric.{FabricOf, owner_of, switch_count}
 use Rattle.ib_routes.specs.declared.traffic.Traffic.{Traffic}
+use Rattle.ib_routes.specs.declared.audience.Targets.{Targets}
+use Rattle.ib_routes.specs.Audience.{AreTargets}
+use Rattle.ib_routes.specs.Routes.{Sends}
 use Rattle.ib_routes.specs.Waves.{HasBit}
 use Rattle.ib_lane_routes.specs.declared.hop.LaneHop.TheVariants.{On}
 use Rattle.ib_lane_routes.specs.LaneFound.{IsLaneChannel, lane_number}
@@ -30,32 +33,47 @@ AreOwned fabric block words =
     → (HasBit words place bit ↔ (owner_of fabric (64 * block + bit) ≡ Some (source_at fabric place)))
 
 -- an end port of the gate sends to the LID with the level
-pub record IsSentFrom (fabric : FabricOf) (traffic : Traffic) (levels : LevelsOf) (gates : List (Option ℕ))
-    (gate lid level : ℕ)
+pub record IsSentFrom (fabric : FabricOf) (tables : TablesOf) (traffic : Traffic) (levels : LevelsOf)
+    (gates : List (Option ℕ)) (gate lid level : ℕ)
     : Type 0 where
   pub place : ℕ
   pub low : place < length gates
   pub is : slice_index_or gates place None ≡ Some gate
-  pub sends : LaneSends fabric traffic levels lid (source_at fabric place) level
+  pub sends : LaneSends fabric tables traffic levels lid (source_at fabric place) level
 
 -- for each gate and level, the LIDs of a block to which some end port of the gate sends
 abbrev pub AreSent :
-    FabricOf → Traffic → LevelsOf → (gates : List (Option ℕ)) → (count block top : ℕ) → List ℕ → Type 0
-AreSent fabric traffic levels gates count block top words =
+    FabricOf → TablesOf → Traffic → LevelsOf → (gates : List (Option ℕ)) → (count block top : ℕ) → List ℕ → Type 0
+AreSent fabric tables traffic levels gates count block top words =
     (gate level bit : ℕ) → gate < count → level < top → bit < 64
-    → (HasBit words (gate * top + level) bit ↔ IsSentFrom fabric traffic levels gates gate (64 * block + bit) level)
+    → (HasBit words (gate * top + level) bit ↔ IsSentFrom fabric tables traffic levels gates gate (64 * block + bit) level)
 
 -- an end port before that of a place has this gate, and sends to the LID of a bit with the same levels as
 -- that
-pub record StandsAlready (fabric : FabricOf) (levels : LevelsOf) (targets block : ℕ) (gates : List (Option ℕ))
-    (owned : List ℕ) (place gate bit : ℕ)
+pub record StandsAlready (fabric : FabricOf) (tables : TablesOf) (traffic : Traffic) (levels : LevelsOf) (block : ℕ)
+    (gates : List (Option ℕ)) (place gate bit : ℕ)
     : Type 0 where
   pub before : ℕ
   pub less : before < place
   pub same : slice_index_or gates before None ≡ Some gate
-  pub target : bit_at targets bit ≡ 1
-  pub not_own : HasBit owned before bit → ⊥
+  pub sends : Sends fabric tables traffic (64 * block + bit) (source_at fabric before)
   pub levels_are : levels (source_at fabric place) (64 * block + bit) ≡ levels (source_at fabric before) (64 * block + bit)
+
+-- .. by routes to the LIDs of a block
+abbrev pub StandsOf : BlockRoutes → List (Option ℕ) → (place gate bit : ℕ) → Type 0
+StandsOf routes = StandsAlready routes.routing.fabric.now (tables_of routes.routing.cells.now) routes.routing.traffic
+    (levels_of routes.routing.levels.now) routes.block
+
+-- the LIDs of a block by who sends to them
+abbrev pub AreTargetsOf : BlockRoutes → Targets → Type 0
+AreTargetsOf routes =
+    AreTargets routes.routing.fabric.now (tables_of routes.routing.cells.now) routes.routing.traffic routes.block
+
+-- just to the LIDs of these bits the end port of a place sends
+abbrev pub IsSentBy : BlockRoutes → (place word : ℕ) → Type 0
+IsSentBy routes place word =
+    (bit : ℕ)
+    → ((bit_at word bit ≡ 1) ↔ ((bit < 64) × Sends routes.routing.fabric.now (tables_of routes.routing.cells.now) routes.routing.traffic (64 * routes.block + bit) (source_at routes.routing.fabric.now place)))
 
 -- The first hops of routes are taken, those from the triples of a kind of place, level and bit: each shows the bit at the
 -- place of what goes out of the switch; and it is told whether something stops there.
@@ -79,7 +97,7 @@ module _ (fabric : FabricOf) (tables : TablesOf) (lanes : LanesOf) (count : ℕ)
   pub record BeginsAt (lid at : ℕ) : Type 0 where
     pub source : EndPort
     pub level : ℕ
-    pub sends : LaneSends fabric traffic levels lid source level
+    pub sends : LaneSends fabric tables traffic levels lid source level
     pub start : Spot
     pub begins : begin_of fabric source ≡ Some start
     pub port : ℕ
@@ -92,7 +110,7 @@ module _ (fabric : FabricOf) (tables : TablesOf) (lanes : LanesOf) (count : ℕ)
   pub record StopsAtFirst (lid : ℕ) : Type 0 where
     pub source : EndPort
     pub level : ℕ
-    pub sends : LaneSends fabric traffic levels lid source level
+    pub sends : LaneSends fabric tables traffic levels lid source level
     pub start : Spot
     pub begins : begin_of fabric source ≡ Some start
     pub stops : IsLaneStop (lane_hop fabric tables lanes level lid start)

@@ -158,6 +158,7 @@ pub fn find_lane_dependencies(
     let count = routing.lanes.count();
     let mut graph = no_dependencies(alloc, routing.fabric, count)?;
     let gates = find_gates(alloc, routing)?;
+    let _blocks = routing.cells.blocks();
     let stopped = add_dependencies(alloc, routing, &gates, &mut graph)?;
     Ok(LaneFound { graph, stopped })
 }

@@ -6,12 +6,13 @@ ghost use Rattle.ib_net.specs.declared.node.Spot.{Spot};
 ghost use Rattle.ib_net.specs.Fabric.{owner_of, switch_count};
 ghost use Rattle.ib_cells.specs.Cells.{tables_of};
 ghost use Rattle.ib_rows.specs.Levels.{levels_of};
-ghost use Rattle.ib_rows.specs.PathLevels.{AreLevelsBelow, HasLevel, told_levels};
+ghost use Rattle.ib_rows.specs.PathLevels.{AreLevelsBelow, HasLevel};
+ghost use Rattle.ib_routes.specs.Routes.{IsSource};
 ghost use Rattle.ib_routes.specs.Waves.{HasBit};
 ghost use Rattle.ib_lane_routes.specs.LaneExits.{IsExit, exit_of};
 ghost use Rattle.ib_lane_waves.specs.LaneGates.{AreGatesOn, source_at, source_count};
 ghost use Rattle.ib_lane_waves.specs.LaneBlocks.{AreBegunOf, AreOwned, AreSent, AreSetBy, IsFirstHop, IsOfGate, IsOfGates};
-ghost use Rattle.ib_lane_waves.specs.LaneBlocks.{StandsAlready};
+ghost use Rattle.ib_lane_waves.specs.LaneBlocks.{AreTargetsOf, IsSentBy, StandsOf};
 ghost use Rattle.ib_lane_waves.specs.LaneSteps.{place_count};
 
 use crate::block::BlockRoutes;
@@ -23,9 +24,9 @@ use ib_lane_routes::hop::{Exit, LaneHop, find_exit, hop_through};
 use ib_lane_routes::routing::LaneRouting;
 use ib_net::fabric::Fabric;
 use ib_net::node::{EndPort, Spot};
-use ib_routes::start::targets_of;
+use ib_routes::audience::{Targets, targets_of};
 use ib_routes::word::{fresh_of, has_bit, with_bit};
-use ib_rows::levels::{LevelRows, Levels};
+use ib_rows::levels::Levels;
 
 // Sets the bit of a LID of a block in the word of the end port that owns it.
 fn add_owner(fabric: &Fabric, block: usize, bit: usize, owned: &mut [u64])
@@ -71,27 +72,20 @@ fn add_levels(sent: &mut [u64], row: usize, levels: u16, word: u64)
     }
 }
 
-// The same of the levels that were told of an end port, for each LID of the word its own.
+// The same of the levels of an end port, for each LID of the word its own.
 #[inline]
-fn add_told(
-    told: &LevelRows,
-    block: usize,
-    source: EndPort,
-    row: usize,
-    word: u64,
-    sent: &mut [u64],
-)
+fn add_told(levels: &Levels, block: usize, source: EndPort, row: usize, word: u64, sent: &mut [u64])
     requires block { block < 1024 }
-    requires room { (lid level : ℕ) → HasLevel (told_levels told.now) source lid level → row + level < length sent.old }
+    requires room { (lid level : ℕ) → HasLevel (levels_of levels.now) source lid level → row + level < length sent.old }
     ensures { AreSetBy sent.old sent.new (λ place bit. (level : ℕ)
-        × HasLevel (told_levels told.now) source (64 * block + bit) level
+        × HasLevel (levels_of levels.now) source (64 * block + bit) level
         × (place ≡ row + level) × (bit_at word bit ≡ 1)) }
 {
     let mut left = word;
     'bits: while left > 0 {
         let bit = lowest(left);
-        let levels = told.levels(source, 64 * block + bit);
-        add_levels(sent, row, levels, with_bit(0, bit));
+        let has = levels.levels(source, 64 * block + bit);
+        add_levels(sent, row, has, with_bit(0, bit));
         left = without(left, bit);
     }
 }
@@ -114,8 +108,23 @@ fn add_source(
 {
     match levels {
         Levels::Same(same) => add_levels(sent, row, *same, word),
-        Levels::Told(told) => add_told(told, block, source, row, word, sent),
+        _ => add_told(levels, block, source, row, word, sent),
     }
+}
+
+// The LIDs of a block to which the end port of a place sends, if it sends at all: without its own.
+#[inline]
+fn sent_by(routes: &BlockRoutes<'_>, targets: Targets, owned: &[u64], place: usize) -> u64
+    requires place { place < source_count routes.now.routing.fabric.now }
+    requires low { place < 2 ^ 17 }
+    requires size { length owned.now ≡ source_count routes.now.routing.fabric.now }
+    requires owned { AreOwned routes.now.routing.fabric.now routes.now.block owned.now }
+    requires targets { AreTargetsOf routes.now targets }
+    ensures { IsSource routes.now.routing.fabric.now routes.now.routing.traffic
+        (source_at routes.now.routing.fabric.now place) → IsSentBy routes.now place result }
+{
+    let source = source_of(routes.routing.fabric, place);
+    fresh_of(targets.sent_by(source), owned[place])
 }
 
 // Of the LIDs of a block to which the end port of a place sends, those that stand in the words of its gate already: those
@@ -123,7 +132,7 @@ fn add_source(
 #[inline]
 fn stand_already(
     routes: &BlockRoutes<'_>,
-    targets: u64,
+    targets: Targets,
     gates: &Gates,
     owned: &[u64],
     place: usize,
@@ -132,9 +141,10 @@ fn stand_already(
     requires place { place < length owned.now }
     requires few { place < 2 ^ 17 }
     requires size { length owned.now ≡ source_count routes.now.routing.fabric.now }
-    requires gates { length gates.now.gates.items ≡ length owned.now }
-    ensures { (bit : ℕ) → bit_at result bit ≡ 1 → StandsAlready routes.now.routing.fabric.now
-        (levels_of routes.now.routing.levels.now) targets routes.now.block gates.now.gates.items owned.now place gate bit }
+    requires owned { AreOwned routes.now.routing.fabric.now routes.now.block owned.now }
+    requires targets { AreTargetsOf routes.now targets }
+    requires gates { AreGatesOn routes.now.routing gates.now }
+    ensures { (bit : ℕ) → bit_at result bit ≡ 1 → StandsOf routes.now gates.now.gates.items place gate bit }
 {
     if place == 0 {
         return 0;
@@ -150,7 +160,7 @@ fn stand_already(
     if !levels.are_same(source_of(fabric, place), before, routes.block) {
         return 0;
     }
-    fresh_of(targets, owned[place - 1])
+    sent_by(routes, targets, owned, place - 1)
 }
 
 /// Puts for each gate and level below a number the LIDs of a block to which some end port of the gate sends with the level.
@@ -167,15 +177,16 @@ pub fn put_sent(
     requires size { length owned.now ≡ source_count routes.now.routing.fabric.now }
     requires owned { AreOwned routes.now.routing.fabric.now routes.now.block owned.now }
     requires sent { length sent.old ≡ length gates.now.spots.items * top }
-    ensures { AreSent routes.now.routing.fabric.now routes.now.routing.traffic (levels_of routes.now.routing.levels.now)
-        gates.now.gates.items (length gates.now.spots.items) routes.now.block top sent.new }
+    ensures { AreSent routes.now.routing.fabric.now (tables_of routes.now.routing.cells.now) routes.now.routing.traffic
+        (levels_of routes.now.routing.levels.now) gates.now.gates.items (length gates.now.spots.items) routes.now.block top
+        sent.new }
 {
     let routing = &routes.routing;
-    let targets = targets_of(routing.fabric, routing.traffic, routes.block);
+    let targets = targets_of(routing.fabric, routing.cells, routing.traffic, routes.block);
     clear(sent);
     'sources: for place in 0..sources(routing.fabric) {
         if let Some(gate) = gates.gates[place] {
-            let word = fresh_of(targets, owned[place]);
+            let word = sent_by(routes, targets, owned, place);
             let had = stand_already(routes, targets, gates, owned, place, gate);
             let source = source_of(routing.fabric, place);
             add_source(

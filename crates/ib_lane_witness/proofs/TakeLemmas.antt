@@ -13,7 +13,7 @@ use Rattle.ib_rows.specs.Lanes.{LanesOf}
 use Rattle.ib_rows.specs.PathLevels.{LevelsOf}
 use Rattle.ib_routes.specs.declared.traffic.Traffic.{Traffic}
 use Rattle.ib_routes.specs.Witness.{IsFirst, IsFirstSource, IsLesser}
-use Rattle.ib_routes.proofs.StartLemmas.{cabled_low, source_low}
+use Rattle.ib_routes.proofs.StartLemmas.{cabled_low, sender_is, source_low}
 use Rattle.ib_routes.proofs.WitnessLemmas.{first_of}
 use Rattle.ib_lane_routes.specs.declared.hop.LaneHop.TheVariants.{On}
 use Rattle.ib_lane_routes.specs.LaneFound.{IsLeastLaneWitness}
@@ -90,7 +90,7 @@ module _ (fabric : FabricOf) (tables : TablesOf) (lanes : LanesOf) (lid : ℕ) w
     TakesBy source level = LaneTakes fabric tables lanes traffic levels lid source level channel next
 
     -- a route that goes by the channel, and what goes by it goes on by the next one
-    pub takes_of : (source : EndPort) (level : ℕ) (start : Spot) → LaneSends fabric traffic levels lid source level → begin_of fabric source ≡ Some start → GoesBy (lane_hop fabric tables lanes level lid) start channel → GoesOn fabric tables lanes lid level channel next → TakesBy source level
+    pub takes_of : (source : EndPort) (level : ℕ) (start : Spot) → LaneSends fabric tables traffic levels lid source level → begin_of fabric source ≡ Some start → GoesBy (lane_hop fabric tables lanes level lid) start channel → GoesOn fabric tables lanes lid level channel next → TakesBy source level
     takes_of source level start sends begins by on = record {
       entry = by.entry;
       comes = record { sends = sends; start = start; begins = begins; hops = by.hops; comes = by.comes };
@@ -125,8 +125,8 @@ module _ (fabric : FabricOf) (tables : TablesOf) (lanes : LanesOf) (lid : ℕ) w
 
     -- who takes is one of the fabric
     pub takes_low : (kind : Kind) (place : ℕ) → Takes fabric tables lanes traffic levels lid channel next (end_at kind place) → place < count_of fabric kind
-    takes_low Hosts end (level, takes) = let source = takes.comes.sends.sends.is_source in cabled_low fabric traffic end source.0 source.1
-    takes_low Switches switch (level, takes) = source_low fabric traffic switch takes.comes.sends.sends.is_source
+    takes_low Hosts end (level, takes) = let source = sender_is fabric tables traffic lid (end_at Hosts end) takes.comes.sends.sends in cabled_low fabric end source.0 source.1
+    takes_low Switches switch (level, takes) = source_low fabric traffic switch (sender_is fabric tables traffic lid (end_at Switches switch) takes.comes.sends.sends)
 
     -- the end port of least GUID, of those of both kinds
     pub first_takes : IsFabric fabric → (host switch : Option ℕ) (found : Option EndPort) → MatchOption host ((end : ℕ) → Takes fabric tables lanes traffic levels lid channel next (end_at Hosts end) → ⊥) (IsFirst (λ end. Takes fabric tables lanes traffic levels lid channel next (end_at Hosts end))) → MatchOption switch ((at : ℕ) → Takes fabric tables lanes traffic levels lid channel next (end_at Switches at) → ⊥) (IsFirst (λ at. Takes fabric tables lanes traffic levels lid channel next (end_at Switches at))) → IsLesser fabric host switch found → MatchOption found ((source : EndPort) → Takes fabric tables lanes traffic levels lid channel next source → ⊥) (IsFirstSource fabric (Takes fabric tables lanes traffic levels lid channel next))

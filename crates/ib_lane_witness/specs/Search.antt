@@ -5,10 +5,11 @@ use Rattle.ib_net.specs.declared.node.EndPort.{EndPort}
 use Rattle.ib_net.specs.declared.node.EndPort.TheVariants.{Host, Switch}
 use Rattle.ib_net.specs.declared.node.Spot.{Spot}
 use Rattle.ib_net.specs.Fabric.{FabricOf, switch_count}
-use Rattle.ib_cells.specs.Cells.{TablesOf}
+use Rattle.ib_cells.specs.Cells.{TablesOf, tables_of}
 use Rattle.ib_rows.specs.Lanes.{LanesOf}
 use Rattle.ib_rows.specs.PathLevels.{LevelsOf}
 use Rattle.ib_routes.specs.declared.traffic.Traffic.{Traffic}
+use Rattle.ib_routes.specs.Audience.{IsAudience}
 use Rattle.ib_routes.specs.declared.trace.Mark.{Mark}
 use Rattle.ib_routes.specs.Trace.{IsReady, hop_to, way}
 use Rattle.ib_routes.specs.Witness.{IsFirst, IsFirstSource}
@@ -16,6 +17,7 @@ use Rattle.ib_lane_routes.specs.declared.hop.LaneHop.{LaneHop}
 use Rattle.ib_lane_routes.specs.declared.hop.LaneHop.TheVariants.{On}
 use Rattle.ib_lane_routes.specs.LaneRoutes.{LaneChannel, LaneTakes, LaneWalksBy, lane_hop}
 use Rattle.ib_lane_routes.specs.LaneWays.{IsWay}
+use Rattle.ib_lane_routes.specs.declared.routing.LaneRouting.{LaneRouting}
 use Rattle.ib_lane_witness.specs.declared.witness.Kind.{Kind}
 use Rattle.ib_lane_witness.specs.declared.witness.Kind.TheVariants.{Hosts, Switches}
 use Rattle.ib_lane_witness.specs.declared.witness.Sought.{Sought}
@@ -66,6 +68,10 @@ module _ (fabric : FabricOf) (tables : TablesOf) (lanes : LanesOf) (traffic : Tr
 abbrev pub AreOnFor : FabricOf → TablesOf → LanesOf → Sought → Type 0
 AreOnFor fabric tables lanes sought =
     AreOn fabric tables lanes sought.lid (lane_channel_of sought.channel) (lane_channel_of sought.next) sought.on
+
+abbrev pub IsAudienceFor : LaneRouting → Sought → Type 0
+IsAudienceFor routing sought = IsAudience routing.fabric.now (tables_of routing.cells.now) routing.traffic sought.lid
+    sought.audience
 
 abbrev pub TakesAs : FabricOf → TablesOf → LanesOf → Traffic → LevelsOf → Sought → EndPort → Type 0
 TakesAs fabric tables lanes traffic levels sought =

@@ -11,7 +11,7 @@ ghost use Rattle.ib_lane_routes.specs.LaneFound.{IsLeastLaneWitness};
 ghost use Rattle.ib_routes.specs.Witness.{IsFirst};
 ghost use Rattle.ib_lane_routes.specs.LaneWays.{IsWay};
 ghost use Rattle.ib_lane_routes.specs.Routing.{by_lanes, by_routing, hop_by};
-ghost use Rattle.ib_lane_witness.specs.Search.{AreOn, AreOnFor, GoesBy, IsLeastAt, IsLeastLevel, IsReadyFor};
+ghost use Rattle.ib_lane_witness.specs.Search.{AreOn, AreOnFor, GoesBy, IsAudienceFor, IsLeastAt, IsLeastLevel, IsReadyFor};
 ghost use Rattle.ib_lane_witness.specs.Search.{Takes, TakesAs, count_of, end_at};
 ghost use Rattle.ib_lane_witness.specs.Witness.{HasNoLaneWitness, lane_channel_of};
 
@@ -22,7 +22,7 @@ use ib_lane_routes::routing::LaneRouting;
 use ib_lane_routes::start::begin_at;
 use ib_net::fabric::Fabric;
 use ib_net::node::{EndPort, Spot};
-use ib_routes::start::is_target;
+use ib_routes::audience::{Audience, audience_of};
 use ib_routes::trace::Mark;
 use ib_routes::witness::{comes, lesser};
 use ib_routes::word::{has_bit, with_bit};
@@ -51,11 +51,12 @@ pub struct LaneWitness {
     pub level: u8,
 }
 
-// What is sought: the routes to a LID that take a channel and then, directly, the next one; and the levels, as bits, with
-// which what goes by the channel goes on by the next one.
+// What is sought: the routes to a LID that take a channel and then, directly, the next one; who sends to the LID; and the
+// levels, as bits, with which what goes by the channel goes on by the next one.
 #[derive(Clone, Copy)]
 struct Sought {
     lid: usize,
+    audience: Audience,
     channel: LaneSpot,
     next: LaneSpot,
     on: u64,
@@ -186,6 +187,7 @@ fn least_level(
     requires few { switch_count routing.now.fabric.now ≤ 2 ^ 14 }
     requires lid { sought.lid < 64 * routing.now.cells.now.blocks }
     requires on { by_lanes AreOnFor routing.now sought }
+    requires audience { IsAudienceFor routing.now sought }
     requires room { switch_count routing.now.fabric.now ≤ length path.old }
     requires seen { length seen.old ≡ switch_count routing.now.fabric.now }
     requires ready { IsReadyFor routing.now.fabric.now (tables_of routing.now.cells.now) sought marks.old }
@@ -198,7 +200,7 @@ fn least_level(
     if !comes(
         routing.fabric,
         routing.cells,
-        routing.traffic,
+        sought.audience,
         sought.lid,
         via,
         marks,
@@ -229,6 +231,7 @@ fn takes(
     requires few { switch_count routing.now.fabric.now ≤ 2 ^ 14 }
     requires lid { sought.lid < 64 * routing.now.cells.now.blocks }
     requires on { by_lanes AreOnFor routing.now sought }
+    requires audience { IsAudienceFor routing.now sought }
     requires room { switch_count routing.now.fabric.now ≤ length path.old }
     requires seen { length seen.old ≡ switch_count routing.now.fabric.now }
     requires ready { IsReadyFor routing.now.fabric.now (tables_of routing.now.cells.now) sought marks.old }
@@ -253,6 +256,7 @@ fn first_of_kind(
     requires few { switch_count routing.now.fabric.now ≤ 2 ^ 14 }
     requires lid { sought.lid < 64 * routing.now.cells.now.blocks }
     requires on { by_lanes AreOnFor routing.now sought }
+    requires audience { IsAudienceFor routing.now sought }
     requires room { switch_count routing.now.fabric.now ≤ length path.old }
     requires seen { length seen.old ≡ switch_count routing.now.fabric.now }
     requires ready { IsReadyFor routing.now.fabric.now (tables_of routing.now.cells.now) sought marks.old }
@@ -281,6 +285,7 @@ fn first_of_all(
     requires few { switch_count routing.now.fabric.now ≤ 2 ^ 14 }
     requires lid { sought.lid < 64 * routing.now.cells.now.blocks }
     requires on { by_lanes AreOnFor routing.now sought }
+    requires audience { IsAudienceFor routing.now sought }
     requires room { switch_count routing.now.fabric.now ≤ length path.old }
     requires seen { length seen.old ≡ switch_count routing.now.fabric.now }
     requires ready { IsReadyFor routing.now.fabric.now (tables_of routing.now.cells.now) sought marks.old }
@@ -306,6 +311,7 @@ fn first_found(
 ) -> Result<Option<(EndPort, u8)>, OutOfMemory>
     requires lid { sought.lid < 64 * routing.now.cells.now.blocks }
     requires on { by_lanes AreOnFor routing.now sought }
+    requires audience { IsAudienceFor routing.now sought }
     ensures { IfOk result (λ found. MatchOption found ((source : EndPort) → by_routing TakesAs routing.now sought source → ⊥)
         (λ least. by_routing IsLeastAt routing.now sought.lid
         (lane_channel_of sought.channel) (lane_channel_of sought.next) least.0 least.1)) }
@@ -335,7 +341,8 @@ fn witness_at(
         (λ least. by_routing IsLeastAt routing.now lid
         (lane_channel_of channel) (lane_channel_of next) least.0 least.1)) }
 {
-    if !is_target(routing.fabric, routing.traffic, lid) {
+    let audience = audience_of(routing.fabric, routing.cells, routing.traffic, lid);
+    if let Audience::Nobody = audience {
         return Ok(None);
     }
     let on = levels_on(routing, lid, channel, next);
@@ -344,6 +351,7 @@ fn witness_at(
     }
     let sought = Sought {
         lid,
+        audience,
         channel,
         next,
         on,
@@ -369,7 +377,7 @@ pub fn find_lane_witness(
         (λ w. by_routing IsLeastLaneWitness routing.now
         (lane_channel_of channel) (lane_channel_of next) w.lid w.source w.level)) }
 {
-    'lids: for lid in 0..routing.fabric.lids() {
+    'lids: for lid in 0..64 * routing.cells.blocks() {
         let found = witness_at(alloc, routing, lid, channel, next)?;
         if let Some((source, level)) = found {
             let lid = lid as u16;

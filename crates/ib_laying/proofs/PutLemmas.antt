@@ -24,6 +24,7 @@ module _ (fabric : FabricOf) (old new : CellsOf) (switch lid port : ℕ) (owned 
   put_kept true switches blocks put kept = record {
     switches = switches ∙ had.switches;
     lids = (let low = had.lids in let same = blocks in omega arith);
+    low = (let low = had.low in let same = blocks in omega arith);
     owned = λ s l none. put s l ∙ ap (λ (b : Bool). cond b (Some port) (tables_of old s l)) (other_lid s l switch lid (unowned l none)) ∙ had.owned s l none;
   }
   put_kept false switches blocks put kept = subst (AreTablesFor fabric) (sym kept) had

@@ -10,4 +10,4 @@ pub mod choice;
 mod laying;
 pub mod measures;
 mod polish;
-mod writing;
+pub mod writing;

@@ -68,7 +68,9 @@ impl Measures {
         let lids = u64::from(plan.demand.host_lids(target));
         let others = u64::from(plan.demand.host_count()).saturating_sub(1);
         self.routes = self.routes.wrapping_add(lids.wrapping_mul(others));
-        let lost = plan.missing(ways).wrapping_mul(plan.sent_to(target));
+        let lost = plan
+            .missing(ways, target)
+            .wrapping_mul(plan.sent_to(target));
         self.lost = self.lost.wrapping_add(lost);
         if lids > 0 {
             self.longest = plan.longest(ways).max(self.longest);

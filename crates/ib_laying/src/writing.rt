@@ -1,6 +1,6 @@
 //! Rows of exits written as tables.
 
-ghost use Rattle.std.specs.Prelude.{◌<◌, IfOk};
+ghost use Rattle.std.specs.Prelude.{◌≡◌, ◌<◌, IfOk};
 ghost use Rattle.ib_net.specs.Fabric.{switch_count};
 ghost use Rattle.ib_laying.specs.Made.{AreTablesFor};
 
@@ -22,11 +22,12 @@ fn port_of(channels: &Channels, rows: &Rows, row: u32, target: Target, switch: u
     Some(channels.port(exit))
 }
 
-// Puts the port of a switch for a LID, if the LID has an owner.
-fn put_port(fabric: &Fabric, cells: &mut Cells, switch: usize, lid: usize, port: u8)
+/// Puts the port of a switch for a LID, if the LID has an owner and the switch no port for it yet. 255 is none.
+pub fn put_port(fabric: &Fabric, cells: &mut Cells, switch: usize, lid: usize, port: u8)
     requires switch { switch < switch_count fabric.now }
     requires tables { AreTablesFor fabric.now cells.old }
-    ensures { AreTablesFor fabric.now cells.new }
+    ensures tables { AreTablesFor fabric.now cells.new }
+    ensures blocks { cells.new.blocks ≡ cells.old.blocks }
 {
     if port < u8::MAX && lid < fabric.lids() && fabric.owner(lid).is_some() {
         let _ = cells.put(switch, lid, port);

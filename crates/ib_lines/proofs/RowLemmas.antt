@@ -7,7 +7,7 @@ use Rattle.ib_lines.specs.declared.answer.Answer.{Answer}
 use Rattle.ib_lines.specs.declared.ranks.Rank.{Rank}
 use Rattle.ib_lines.specs.declared.ranks.Risen.{Risen}
 use Rattle.ib_lines.specs.Ranks.{rank_row, ranks_text, risen_rows, verified_rows, verified_text}
-use Rattle.ib_lines.specs.Answers.{Row, answer_rows, answer_text, read_row, judged_row, routes_row, channel_row, channels_row, cycle_rows, lost_rows, name_row}
+use Rattle.ib_lines.specs.Answers.{Row, answer_rows, answer_text, read_row, judged_row, routes_row, channel_row, channels_row, cycle_rows, lost_rows, name_row, unset_rows}
 
 -- a text with the lines of a list that is another
 pub same_lines : {Form : Type 0} (rows_of : Form → List Row) (xs ys : Form) (old all : List ℕ) → xs ≡ ys → all ≡ old ++ lines_text (rows_of xs) → all ≡ old ++ lines_text (rows_of ys)
@@ -18,16 +18,20 @@ pub onward : (old one more text all : List ℕ) → text ≡ old ++ one → all 
 onward old one more text all first next = next ∙ ap (λ (t : List ℕ). t ++ more) first ∙ append_assoc old one more
 
 -- the rows after the first five
-last_rows : (a : Answer) → lines_text (cycle_rows a.cycle.items ++ lost_rows a.losses a.lost.items ++ map name_row a.names.items) ≡ lines_text (cycle_rows a.cycle.items) ++ (lines_text (lost_rows a.losses a.lost.items) ++ lines_text (map name_row a.names.items))
+last_rows : (a : Answer) → lines_text (cycle_rows a.cycle.items ++ lost_rows a.losses a.lost.items ++ unset_rows a.unset ++ map name_row a.names.items) ≡ lines_text (cycle_rows a.cycle.items) ++ (lines_text (lost_rows a.losses a.lost.items) ++ (lines_text (unset_rows a.unset) ++ lines_text (map name_row a.names.items)))
 last_rows a =
     let cycle = cycle_rows a.cycle.items in
     let lost = lost_rows a.losses a.lost.items in
+    let unset = unset_rows a.unset in
     let names = map name_row a.names.items in
-    flat_map-append line_text (cycle ++ lost) names ∙ ap (λ (t : List ℕ). t ++ lines_text names) (flat_map-append line_text cycle lost) ∙ append_assoc (lines_text cycle) (lines_text lost) (lines_text names)
+    flat_map-append line_text ((cycle ++ lost) ++ unset) names
+    ∙ ap (λ (t : List ℕ). t ++ lines_text names) (flat_map-append line_text (cycle ++ lost) unset ∙ ap (λ (t : List ℕ). t ++ lines_text unset) (flat_map-append line_text cycle lost))
+    ∙ append_assoc (lines_text cycle ++ lines_text lost) (lines_text unset) (lines_text names)
+    ∙ append_assoc (lines_text cycle) (lines_text lost) (lines_text unset ++ lines_text names)
 
-pub answer_is : (a : Answer) (t0 t1 t2 t3 t4 t5 t6 t7 t8 traffic : List ℕ) → traffic ≡ a.traffic.now → t1 ≡ t0 ++ line_text (codes "fabric" ∷ codes "1" ∷ []) → t2 ≡ t1 ++ line_text (read_row a.read) → t3 ≡ t2 ++ line_text (judged_row traffic) → t4 ≡ t3 ++ line_text (routes_row a.routes) → t5 ≡ t4 ++ line_text (channels_row a.channels a.dependencies) → t6 ≡ t5 ++ lines_text (cycle_rows a.cycle.items) → t7 ≡ t6 ++ lines_text (lost_rows a.losses a.lost.items) → t8 ≡ t7 ++ lines_text (map name_row a.names.items) → t8 ≡ t0 ++ answer_text a
+pub answer_is : (a : Answer) (t0 t1 t2 t3 t4 t5 t6 t7 t8 t9 traffic : List ℕ) → traffic ≡ a.traffic.now → t1 ≡ t0 ++ line_text (codes "fabric" ∷ codes "1" ∷ []) → t2 ≡ t1 ++ line_text (read_row a.read) → t3 ≡ t2 ++ line_text (judged_row traffic) → t4 ≡ t3 ++ line_text (routes_row a.routes) → t5 ≡ t4 ++ line_text (channels_row a.channels a.dependencies) → t6 ≡ t5 ++ lines_text (cycle_rows a.cycle.items) → t7 ≡ t6 ++ lines_text (lost_rows a.losses a.lost.items) → t8 ≡ t7 ++ lines_text (unset_rows a.unset) → t9 ≡ t8 ++ lines_text (map name_row a.names.items) → t9 ≡ t0 ++ answer_text a
 unfolding answer_rows
-answer_is a t0 t1 t2 t3 t4 t5 t6 t7 t8 traffic word h1 h2 h3 h4 h5 h6 h7 h8 =
+answer_is a t0 t1 t2 t3 t4 t5 t6 t7 t8 t9 traffic word h1 h2 h3 h4 h5 h6 h7 h8 h9 =
     let p1 = line_text (codes "fabric" ∷ codes "1" ∷ []) in
     let p2 = line_text (read_row a.read) in
     let p3 = line_text (judged_row a.traffic.now) in
@@ -35,16 +39,18 @@ answer_is a t0 t1 t2 t3 t4 t5 t6 t7 t8 traffic word h1 h2 h3 h4 h5 h6 h7 h8 =
     let p5 = line_text (channels_row a.channels a.dependencies) in
     let p6 = lines_text (cycle_rows a.cycle.items) in
     let p7 = lines_text (lost_rows a.losses a.lost.items) in
-    let p8 = lines_text (map name_row a.names.items) in
+    let p8 = lines_text (unset_rows a.unset) in
+    let p9 = lines_text (map name_row a.names.items) in
     let judged : t3 ≡ t2 ++ p3 = h3 ∙ ap (λ (w : List ℕ). t2 ++ line_text (judged_row w)) word in
-    let e78 = onward t6 p7 p8 t7 t8 h7 h8 in
-    let e68 = onward t5 p6 (p7 ++ p8) t6 t8 h6 e78 in
-    let e58 = onward t4 p5 (p6 ++ (p7 ++ p8)) t5 t8 h5 e68 in
-    let e48 = onward t3 p4 (p5 ++ (p6 ++ (p7 ++ p8))) t4 t8 h4 e58 in
-    let e38 = onward t2 p3 (p4 ++ (p5 ++ (p6 ++ (p7 ++ p8)))) t3 t8 judged e48 in
-    let e28 = onward t1 p2 (p3 ++ (p4 ++ (p5 ++ (p6 ++ (p7 ++ p8))))) t2 t8 h2 e38 in
-    let e18 = onward t0 p1 (p2 ++ (p3 ++ (p4 ++ (p5 ++ (p6 ++ (p7 ++ p8)))))) t1 t8 h1 e28 in
-    e18 ∙ ap (λ (t : List ℕ). t0 ++ (p1 ++ (p2 ++ (p3 ++ (p4 ++ (p5 ++ t)))))) (sym (last_rows a))
+    let e79 = onward t7 p8 p9 t8 t9 h8 h9 in
+    let e69 = onward t6 p7 (p8 ++ p9) t7 t9 h7 e79 in
+    let e59 = onward t5 p6 (p7 ++ (p8 ++ p9)) t6 t9 h6 e69 in
+    let e49 = onward t4 p5 (p6 ++ (p7 ++ (p8 ++ p9))) t5 t9 h5 e59 in
+    let e39 = onward t3 p4 (p5 ++ (p6 ++ (p7 ++ (p8 ++ p9)))) t4 t9 h4 e49 in
+    let e29 = onward t2 p3 (p4 ++ (p5 ++ (p6 ++ (p7 ++ (p8 ++ p9))))) t3 t9 judged e39 in
+    let e19 = onward t1 p2 (p3 ++ (p4 ++ (p5 ++ (p6 ++ (p7 ++ (p8 ++ p9)))))) t2 t9 h2 e29 in
+    let e09 = onward t0 p1 (p2 ++ (p3 ++ (p4 ++ (p5 ++ (p6 ++ (p7 ++ (p8 ++ p9))))))) t1 t9 h1 e19 in
+    e09 ∙ ap (λ (t : List ℕ). t0 ++ (p1 ++ (p2 ++ (p3 ++ (p4 ++ (p5 ++ t)))))) (sym (last_rows a))
 
 -- the lines of a dependency along which ranks do not fall
 pub risen_is : (rise : Risen) (t0 t1 t2 t3 t4 : List ℕ) → t1 ≡ t0 ++ line_text (codes "ranks" ∷ codes "rise" ∷ []) → t2 ≡ t1 ++ line_text (channel_row rise.step) → t3 ≡ t2 ++ line_text (rank_row rise.own) → t4 ≡ t3 ++ line_text (rank_row rise.next) → t4 ≡ t0 ++ lines_text (risen_rows (Some rise))

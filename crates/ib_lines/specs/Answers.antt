@@ -1,18 +1,18 @@
 -- The lines of an answer.
 
-use Rattle.std.specs.Prelude.{◌==◌, ℕ, List, [], ◌∷◌, ◌++◌, length, map, codes, if◌then◌else◌}
+use Rattle.std.specs.Prelude.{◌==◌, ℕ, List, [], ◌∷◌, ◌++◌, Option, Some, None, length, map, codes, if◌then◌else◌}
 use Rattle.std.specs.Fmt.{decimal}
 use Rattle.text_lines.specs.Lines.{lines_text}
 use Rattle.text_lines.specs.Words.{hex_text}
 use Rattle.ib_lines.specs.declared.answer.Answer.{Answer}
 use Rattle.ib_lines.specs.declared.answer.Read.{Read}
 use Rattle.ib_lines.specs.declared.answer.Routes.{Routes}
-use Rattle.ib_lines.specs.declared.answer.Step.{Step}
+use Rattle.ib_lines.specs.declared.answer.LoopStep.{LoopStep}
 use Rattle.ib_lines.specs.declared.answer.Lost.{Lost}
-use Rattle.ib_lines.specs.declared.answer.Losses.{Losses}
+use Rattle.ib_lines.specs.declared.answer.LostCounts.{LostCounts}
 use Rattle.ib_lines.specs.declared.answer.Name.{Name}
-use Rattle.ib_lines.specs.declared.answer.Cause.{Cause}
-use Rattle.ib_lines.specs.declared.answer.Cause.TheVariants.{Missing, Dead, Wrong, Loop}
+use Rattle.ib_lines.specs.declared.answer.WhyLost.{WhyLost}
+use Rattle.ib_lines.specs.declared.answer.WhyLost.TheVariants.{Missing, Dead, Wrong, Loop}
 
 -- the words of a line
 abbrev pub Row : Type 0
@@ -34,17 +34,22 @@ abbrev pub judged_row : List ℕ → Row
 judged_row traffic =
     codes "judged" ∷ codes "traffic" ∷ traffic ∷ codes "lanes" ∷ codes "one" ∷ []
 
+-- how many of the routes that arrive go to LIDs that nobody owns, if the traffic has such routes
+abbrev pub unowned_words : Option ℕ → Row
+unowned_words None = []
+unowned_words (Some many) = codes "unowned" ∷ decimal many ∷ []
+
 abbrev pub routes_row : Routes → Row
 routes_row of =
     codes "routes" ∷ decimal of.routes ∷ codes "arrived" ∷ decimal of.arrived
-    ∷ codes "hops" ∷ decimal of.hops ∷ []
+    ∷ codes "hops" ∷ decimal of.hops ∷ unowned_words of.unowned
 
 abbrev pub channels_row : (channels dependencies : ℕ) → Row
 channels_row channels dependencies =
     codes "channels" ∷ decimal channels ∷ codes "dependencies" ∷ decimal dependencies ∷ []
 
 -- a channel of the cycle, with the route that takes it and the next one
-abbrev pub channel_row : Step → Row
+abbrev pub channel_row : LoopStep → Row
 channel_row step =
     codes "channel" ∷ guid_word step.guid ∷ decimal step.port ∷ codes "lid" ∷ decimal step.lid
     ∷ codes "from" ∷ guid_word step.source ∷ []
@@ -56,16 +61,16 @@ cycle_word many = if many == 0 then codes "none" else decimal many
 abbrev pub cycle_rows_by : {Channel : Type 0} → (Channel → Row) → List Channel → List Row
 cycle_rows_by row_of cycle = (codes "cycle" ∷ cycle_word (length cycle) ∷ []) ∷ map row_of cycle
 
-abbrev pub cycle_rows : List Step → List Row
+abbrev pub cycle_rows : List LoopStep → List Row
 cycle_rows cycle = cycle_rows_by channel_row cycle
 
-abbrev pub losses_row : Losses → Row
+abbrev pub losses_row : LostCounts → Row
 losses_row losses =
     codes "lost" ∷ decimal losses.all ∷ codes "missing" ∷ decimal losses.missing
     ∷ codes "dead" ∷ decimal losses.dead ∷ codes "wrong" ∷ decimal losses.wrong
     ∷ codes "loop" ∷ decimal losses.looping ∷ []
 
-abbrev pub cause_word : Cause → List ℕ
+abbrev pub cause_word : WhyLost → List ℕ
 cause_word Missing = codes "missing"
 cause_word Dead = codes "dead"
 cause_word Wrong = codes "wrong"
@@ -77,8 +82,13 @@ lost_row lost =
     ∷ codes "at" ∷ guid_word lost.at ∷ []
 
 -- the routes that are lost, if any are
-abbrev pub lost_rows : Losses → List Lost → List Row
+abbrev pub lost_rows : LostCounts → List Lost → List Row
 lost_rows losses lost = if losses.all == 0 then [] else losses_row losses ∷ map lost_row lost
+
+-- the ports whose base LID says that nobody has set it, if there are any
+abbrev pub unset_rows : ℕ → List Row
+unset_rows unset =
+    if unset == 0 then [] else (codes "note" ∷ codes "unset" ∷ decimal unset ∷ []) ∷ []
 
 -- a name stands last on its line, since it may have spaces
 abbrev pub name_row : Name → Row
@@ -89,7 +99,7 @@ unfoldable pub answer_rows : Answer → List Row
 answer_rows answer =
     (codes "fabric" ∷ codes "1" ∷ []) ∷ read_row answer.read ∷ judged_row answer.traffic.now
     ∷ routes_row answer.routes ∷ channels_row answer.channels answer.dependencies
-    ∷ (cycle_rows answer.cycle.items ++ lost_rows answer.losses answer.lost.items
+    ∷ (cycle_rows answer.cycle.items ++ lost_rows answer.losses answer.lost.items ++ unset_rows answer.unset
     ++ map name_row answer.names.items)
 
 abbrev pub answer_text : Answer → List ℕ

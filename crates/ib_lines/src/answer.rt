@@ -26,12 +26,14 @@ pub struct Routes {
     pub arrived: u64,
     /// The most switches on one that arrives.
     pub hops: u64,
+    /// Those of the routes that arrive that go to LIDs that nobody owns; None for a traffic without such routes.
+    pub unowned: Option<u64>,
 }
 
 /// A dependency of a cycle, by a route that makes it: the route takes the channel, and then the next one of
 /// the cycle.
 #[derive(Clone, Copy)]
-pub struct Step {
+pub struct LoopStep {
     /// The GUID of the switch of the channel.
     pub guid: u64,
     /// The port of the channel.
@@ -44,7 +46,7 @@ pub struct Step {
 
 /// Why a route is lost.
 #[derive(Clone, Copy)]
-pub enum Cause {
+pub enum WhyLost {
     /// A switch has no port for the LID.
     Missing,
     /// The port leads nowhere.
@@ -59,7 +61,7 @@ pub enum Cause {
 #[derive(Clone, Copy)]
 pub struct Lost {
     /// Why it is lost.
-    pub cause: Cause,
+    pub cause: WhyLost,
     /// The LID to which it was to lead.
     pub lid: u16,
     /// The GUID of the end port from which it comes.
@@ -70,7 +72,7 @@ pub struct Lost {
 
 /// How many routes are lost.
 #[derive(Clone, Copy)]
-pub struct Losses {
+pub struct LostCounts {
     /// By whatever cause.
     pub all: u64,
     /// At a switch that has no port for the LID.
@@ -106,11 +108,13 @@ pub struct Answer {
     /// How many dependencies the routes make.
     pub dependencies: u64,
     /// The channels of the least cycle, or none if no cycle exists.
-    pub cycle: Vec<Step>,
+    pub cycle: Vec<LoopStep>,
     /// How many routes are lost.
-    pub losses: Losses,
+    pub losses: LostCounts,
     /// The least lost route of each cause that occurs.
     pub lost: Vec<Lost>,
+    /// How many ports have a base LID that says that nobody has set it.
+    pub unset: u64,
     /// The names of the nodes above.
     pub names: Vec<Name>,
 }

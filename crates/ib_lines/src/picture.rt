@@ -5,7 +5,7 @@ ghost use Rattle.text_lines.specs.Lines.{line_text, lines_text};
 ghost use Rattle.ib_lines.specs.Pictures.{arrow_row_by, picture_text, picture_text_by, style_rows, switch_row};
 ghost use Rattle.ib_lines.specs.RowWords.{word_text};
 
-use crate::answer::{Name, Step};
+use crate::answer::{LoopStep, Name};
 use crate::row::RowWord::{Closed, Label, Loop, Number, Quoted, Text};
 use crate::row::{HasRow, RowWord, push_row, push_rows};
 use an_base::memory::OutOfMemory;
@@ -15,7 +15,7 @@ use std::alloc::Global;
 #[derive(Clone, Copy)]
 pub struct Arrow {
     /// Its switch and port, with the route that takes it and the next one.
-    pub step: Step,
+    pub step: LoopStep,
     /// The GUID of the switch to which it leads ..
     pub to: u64,
     /// .. and the port of that switch.

@@ -2,10 +2,10 @@
 
 ghost use Rattle.std.specs.Prelude.{◌≡◌, ◌++◌, OnOk, IfOk};
 ghost use Rattle.text_lines.specs.Lines.{line_text, lines_text};
-ghost use Rattle.ib_lines.specs.Answers.{answer_text, read_row, routes_row, channels_row, cycle_rows_by, cycle_word, judged_row, losses_row, lost_rows, cause_word};
+ghost use Rattle.ib_lines.specs.Answers.{answer_text, read_row, routes_row, channels_row, cycle_rows_by, cycle_word, judged_row, losses_row, lost_rows, unset_rows, cause_word};
 ghost use Rattle.ib_lines.specs.RowWords.{word_text};
 
-use crate::answer::{Answer, Cause, Losses, Lost, Name, Read, Routes, Step};
+use crate::answer::{Answer, LoopStep, Lost, LostCounts, Name, Read, Routes, WhyLost};
 use crate::row::RowWord::{Guid, Number, Text};
 use crate::row::{HasRow, RowWord, push_row, push_rows};
 use an_base::memory::OutOfMemory;
@@ -32,6 +32,7 @@ fn push_answer(alloc: Global, text: &mut Vec<u8>, answer: &Answer) -> Result<(),
     push_channels(alloc, text, answer.channels, answer.dependencies)?;
     push_cycle(alloc, text, &answer.cycle)?;
     push_lost(alloc, text, answer.losses, &answer.lost)?;
+    push_unset(alloc, text, answer.unset)?;
     push_rows(alloc, text, &answer.names)
 }
 
@@ -83,18 +84,31 @@ pub(crate) fn push_judged(
 pub fn push_routes(alloc: Global, text: &mut Vec<u8>, of: Routes) -> Result<(), OutOfMemory>
     ensures { OnOk result (text.new.items ≡ text.old.items ++ line_text (routes_row of)) }
 {
-    push_row(
-        alloc,
-        text,
-        Text(b"routes"),
-        &[
-            Number(of.routes),
-            Text(b"arrived"),
-            Number(of.arrived),
-            Text(b"hops"),
-            Number(of.hops),
-        ],
-    )
+    let routes = Number(of.routes);
+    let arrived = Number(of.arrived);
+    let hops = Number(of.hops);
+    match of.unowned {
+        None => push_row(
+            alloc,
+            text,
+            Text(b"routes"),
+            &[routes, Text(b"arrived"), arrived, Text(b"hops"), hops],
+        ),
+        Some(unowned) => push_row(
+            alloc,
+            text,
+            Text(b"routes"),
+            &[
+                routes,
+                Text(b"arrived"),
+                arrived,
+                Text(b"hops"),
+                hops,
+                Text(b"unowned"),
+                Number(unowned),
+            ],
+        ),
+    }
 }
 
 /// Appends the row of how many channels and dependencies there are.
@@ -141,7 +155,7 @@ fn cycle_word(many: usize) -> RowWord<'static>
     }
 }
 
-impl HasRow for Step {
+impl HasRow for LoopStep {
     ghost use Rattle.ib_lines.specs.Answers.{channel_row};
 
     ghost words = { channel_row };
@@ -167,7 +181,7 @@ impl HasRow for Step {
 fn push_lost(
     alloc: Global,
     text: &mut Vec<u8>,
-    losses: Losses,
+    losses: LostCounts,
     lost: &[Lost],
 ) -> Result<(), OutOfMemory>
     ensures { OnOk result (text.new.items ≡ text.old.items ++ lines_text (lost_rows losses lost.now)) }
@@ -179,7 +193,7 @@ fn push_lost(
     push_rows(alloc, text, lost)
 }
 
-fn push_losses(alloc: Global, text: &mut Vec<u8>, losses: Losses) -> Result<(), OutOfMemory>
+fn push_losses(alloc: Global, text: &mut Vec<u8>, losses: LostCounts) -> Result<(), OutOfMemory>
     ensures { OnOk result (text.new.items ≡ text.old.items ++ line_text (losses_row losses)) }
 {
     push_row(
@@ -222,15 +236,25 @@ impl HasRow for Lost {
     }
 }
 
-fn cause_word(cause: Cause) -> &'static str
+fn cause_word(cause: WhyLost) -> &'static str
     ensures { result.now ≡ cause_word cause }
 {
     match cause {
-        Cause::Missing => "missing",
-        Cause::Dead => "dead",
-        Cause::Wrong => "wrong",
-        Cause::Loop => "loop",
+        WhyLost::Missing => "missing",
+        WhyLost::Dead => "dead",
+        WhyLost::Wrong => "wrong",
+        WhyLost::Loop => "loop",
     }
+}
+
+/// Appends the row of the ports whose base LID nobody has set, if there are any.
+pub fn push_unset(alloc: Global, text: &mut Vec<u8>, unset: u64) -> Result<(), OutOfMemory>
+    ensures { OnOk result (text.new.items ≡ text.old.items ++ lines_text (unset_rows unset)) }
+{
+    if unset == 0 {
+        return Ok(());
+    }
+    push_row(alloc, text, Text(b"note"), &[Text(b"unset"), Number(unset)])
 }
 
 impl HasRow for Name {

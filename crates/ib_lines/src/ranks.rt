@@ -4,7 +4,7 @@ ghost use Rattle.std.specs.Prelude.{◌≡◌, ◌++◌, IfOk, OnOk};
 ghost use Rattle.text_lines.specs.Lines.{lines_text};
 ghost use Rattle.ib_lines.specs.Ranks.{ranks_text, risen_rows, verified_text};
 
-use crate::answer::Step;
+use crate::answer::LoopStep;
 use crate::printer::push_judged;
 use crate::row::RowWord::{Guid, Number, Text};
 use crate::row::{HasRow, push_row, push_rows};
@@ -26,7 +26,7 @@ pub struct Rank {
 #[derive(Clone, Copy)]
 pub struct Risen {
     /// The channel that depends, with the route that makes the dependency.
-    pub step: Step,
+    pub step: LoopStep,
     /// Its rank ..
     pub own: Rank,
     /// .. and that of the channel on which it depends.

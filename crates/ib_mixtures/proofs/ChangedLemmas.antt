@@ -1,16 +1,14 @@
 -- Rows that are changed, one after another.
 use Rattle.std.specs.Prelude.{◌↔◌, IsTrue}
 use Rattle.std.specs.Int.{from_bool}
-use Rattle.std.proofs.Common.{◌≡◌, ◌≢◌, ◌∙◌, sym, ap, subst, refl, ℕ, ◌+◌, ◌<◌, ◌≤◌, Bool, true, false, arith, length, inl, inr}
-use Rattle.std.proofs.lemmas.Bool.{cases_eq}
+use Rattle.std.proofs.Common.{◌≡◌, ◌≢◌, ◌∙◌, sym, ap, subst, refl, ℕ, ◌+◌, ◌<◌, ◌≤◌, Bool, true, false, arith, inl, inr}
+use Rattle.std.proofs.lemmas.Bool.{cases_eq, cases_lt}
 use Rattle.ib_cells.specs.Cells.{TablesOf}
 use Rattle.ib_net.specs.Fabric.{FabricOf, switch_count}
 use Rattle.ib_routes.specs.Counting.{IsCountOf}
 use Rattle.ib_routes.proofs.CountLemmas.{count_more, count_none, count_same, count_sum}
-use Rattle.ib_mixtures.specs.Mixtures.{IsSentTo}
-use Rattle.ib_mixtures.specs.Steps.{IsChangedBelow, IsChangedFor}
+use Rattle.ib_mixtures.specs.Steps.{ArePast, IsChangedBelow, IsChangedFor}
 use Rattle.ib_mixtures.specs.Verdict.{IsChanged}
-use Rattle.ib_mixtures.proofs.TurnLemmas.{sent_low}
 
 abbrev Row : Type 0
 Row = ℕ × ℕ
@@ -32,16 +30,16 @@ module _ (fabric : FabricOf) (old new : TablesOf) where
     pub for_none : IsCountOf (IsChangedFor fabric old new lid 0) 0
     for_none = count_none Row (IsChangedFor fabric old new lid 0) (λ row is. absurd (let low = is.2 in omega arith))
 
-    pub for_more : (at count next : ℕ) (b : Bool) → next ≡ count + from_bool b → at < switch_count fabric → IsSentTo fabric lid → (IsTrue b ↔ (old at lid ≢ new at lid)) → IsCountOf (IsChangedFor fabric old new lid at) count → IsCountOf (IsChangedFor fabric old new lid (at + 1)) next
-    for_more at count next true sum low sent tells so_far =
+    pub for_more : (at count next : ℕ) (b : Bool) → next ≡ count + from_bool b → at < switch_count fabric → (IsTrue b ↔ (old at lid ≢ new at lid)) → IsCountOf (IsChangedFor fabric old new lid at) count → IsCountOf (IsChangedFor fabric old new lid (at + 1)) next
+    for_more at count next true sum low tells so_far =
         let more : next ≡ count + 1 = omega (arith, sum) in
         subst (IsCountOf (IsChangedFor fabric old new lid (at + 1))) (sym more) (count_more Row (IsChangedFor fabric old new lid at) (IsChangedFor fabric old new lid (at + 1)) (row_at at lid) count (λ row is. (is.0, is.1, (let less = is.2 in omega arith)))
         (λ row is. elim (cases_eq row.0 at) [
           | inl here ↦ inr (same_row row at lid here is.1)
           | inr before ↦ inl (is.0, is.1, (let less = is.2 in omega arith))
         ])
-        (record { switch = low; sent = sent; differs = tells.0 refl }, refl, omega arith) (λ is. absurd (let less = is.2 in omega arith)) so_far)
-    for_more at count next false sum low sent tells so_far =
+        (record { switch = low; differs = tells.0 refl }, refl, omega arith) (λ is. absurd (let less = is.2 in omega arith)) so_far)
+    for_more at count next false sum low tells so_far =
         let same : next ≡ count = omega (arith, sum) in
         subst (IsCountOf (IsChangedFor fabric old new lid (at + 1))) (sym same) (count_same Row (IsChangedFor fabric old new lid at) (IsChangedFor fabric old new lid (at + 1)) count (λ row is. (is.0, is.1, (let less = is.2 in omega arith)))
         (λ row is. (
@@ -66,20 +64,14 @@ module _ (fabric : FabricOf) (old new : TablesOf) where
         ])
         (λ row is other. absurd (let less = is.1 in let same = other.1 in omega arith)) so_far here
 
-    -- it is not sent to
-    pub below_other : (before : ℕ) → (IsSentTo fabric lid → ⊥) → IsCountOf (IsChangedBelow fabric old new lid) before → IsCountOf (IsChangedBelow fabric old new (lid + 1)) before
-    below_other before not so_far =
-        count_same Row (IsChangedBelow fabric old new lid) (IsChangedBelow fabric old new (lid + 1)) before (λ row is. (is.0, (let less = is.1 in omega arith)))
-        (λ row is. (
-          is.0,
-          elim (cases_eq row.1 lid) [
-            | inl same ↦ absurd (not (subst (λ (k : ℕ). IsSentTo fabric k) same is.0.sent))
-            | inr away ↦ (let less = is.1 in omega arith)
-          ],
-        )) so_far
-
   pub below_none : IsCountOf (IsChangedBelow fabric old new 0) 0
   below_none = count_none Row (IsChangedBelow fabric old new 0) (λ row is. absurd (let low = is.1 in omega arith))
 
-  pub below_all : (lids count : ℕ) → length fabric.owners ≤ lids → IsCountOf (IsChangedBelow fabric old new lids) count → IsCountOf (IsChanged fabric old new) count
-  below_all lids count all so_far = count_same Row (IsChangedBelow fabric old new lids) (IsChanged fabric old new) count (λ row is. is.0) (λ row is. (is, (let low = sent_low fabric old new row.1 is.sent in omega arith))) so_far
+  pub below_all : (lids count : ℕ) → ArePast old new lids → IsCountOf (IsChangedBelow fabric old new lids) count → IsCountOf (IsChanged fabric old new) count
+  below_all lids count past so_far = count_same Row (IsChangedBelow fabric old new lids) (IsChanged fabric old new) count (λ row is. is.0) (λ row is. (
+    is,
+    elim (cases_lt row.1 lids) [
+      | inl less ↦ less
+      | inr over ↦ absurd (let none = past row.0 row.1 over in is.differs (none.0 ∙ sym none.1))
+    ],
+  )) so_far

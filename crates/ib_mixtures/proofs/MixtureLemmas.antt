@@ -4,30 +4,19 @@ use Rattle.std.proofs.lemmas.Bool.Decides.{nat_tests}
 use Rattle.channel_graph.specs.Cycles.{HasNoCycle}
 use Rattle.channel_graph.proofs.PathLemmas.{more_steps}
 use Rattle.ib_cells.specs.Cells.{TablesOf}
-use Rattle.ib_net.specs.declared.node.EndPort.{EndPort}
 use Rattle.ib_net.specs.declared.node.EndPort.TheVariants as port
 use Rattle.ib_net.specs.Fabric.{FabricOf}
 use Rattle.ib_routes.specs.declared.hop.Hop.TheVariants.{On}
 use Rattle.ib_routes.specs.declared.traffic.Traffic.{Traffic}
-use Rattle.ib_routes.specs.declared.traffic.Traffic.TheVariants.{Hosts, Lids, All}
-use Rattle.ib_routes.specs.Routes.{Channel, DependsOn, IsTarget, Sends, hop, hop_by}
-use Rattle.ib_mixtures.specs.Mixtures.{IsEmptied, IsMixture, IsSentTo, MayBeFollowed, MayTake, MayTakeBoth}
+use Rattle.ib_routes.specs.declared.traffic.Traffic.TheVariants.{All}
+use Rattle.ib_routes.specs.Routes.{Channel, DependsOn, SendsToOwner, hop, hop_by}
+use Rattle.ib_mixtures.specs.Mixtures.{IsEmptied, IsMixture, MayBeFollowed, MayTake, MayTakeBoth}
 use Rattle.ib_mixtures.specs.Moves.{DependsWhile}
 
 -- a hop is by one entry
-hop_same : (fabric : FabricOf) (one other : TablesOf) (switch lid : ℕ) → one switch lid ≡ other switch lid → hop fabric one switch lid ≡ hop fabric other switch lid
+pub hop_same : (fabric : FabricOf) (one other : TablesOf) (switch lid : ℕ) → one switch lid ≡ other switch lid → hop fabric one switch lid ≡ hop fabric other switch lid
 unfolding hop
 hop_same fabric one other switch lid same = ap (λ (told : Option ℕ). hop_by fabric switch lid told) same
-
-target_all : (fabric : FabricOf) (traffic : Traffic) (owner : EndPort) → IsTarget fabric traffic owner → IsTarget fabric All owner
-target_all fabric Hosts (port.Host end) is = is
-target_all fabric Lids (port.Host end) is = is
-target_all fabric All owner is = is
-target_all fabric Hosts (port.Switch switch) is = absurd is
-target_all fabric Lids (port.Switch switch) is = is
-
-pub sent_to : (fabric : FabricOf) (traffic : Traffic) (lid : ℕ) (source : EndPort) → Sends fabric traffic lid source → IsSentTo fabric lid
-sent_to fabric traffic lid source sends = (sends.owner, sends.owns, target_all fabric traffic sends.owner sends.is_target)
 
 module _ (fabric : FabricOf) (old new : TablesOf) where
   -- what a mixture takes may be taken
@@ -41,7 +30,6 @@ module _ (fabric : FabricOf) (old new : TablesOf) where
   depends mixed traffic channel next mix (lid, source, takes) = (
     lid,
     record {
-      sent = sent_to fabric traffic lid source takes.comes.sends;
       first = may_take mixed mix lid channel.switch channel.port next.switch takes.first;
       after = takes.after;
       second = may_take mixed mix lid next.switch next.port takes.after takes.second;
@@ -55,7 +43,6 @@ module _ (fabric : FabricOf) (old new : TablesOf) where
   depends_while traffic channel next (lid, source, takes) = (
     lid,
     record {
-      sent = sent_to fabric traffic lid source takes.sends;
       first = may_take (takes.tables_at takes.hops) (takes.mixed takes.hops) lid channel.switch channel.port next.switch takes.first;
       after = takes.after;
       second = may_take (takes.tables_at (takes.hops + 1)) (takes.mixed (takes.hops + 1)) lid next.switch next.port takes.after takes.second;
@@ -80,7 +67,7 @@ module _ (fabric : FabricOf) (old new : TablesOf) where
   moments_mixed one other is too zero = is
   moments_mixed one other is too (suc moment) = too
 
-  pub changing : (lid : ℕ) (channel next : Channel) → MayTakeBoth fabric old new lid channel next → Sends fabric All lid (port.Switch channel.switch) → DependsWhile fabric old new All channel next
+  pub changing : (lid : ℕ) (channel next : Channel) → MayTakeBoth fabric old new lid channel next → SendsToOwner fabric All lid (port.Switch channel.switch) → DependsWhile fabric old new All channel next
   unfolding moments
   changing lid channel next may sends =
       let (one, is, on) = taken_by lid channel.switch channel.port next.switch may.first in
@@ -88,11 +75,11 @@ module _ (fabric : FabricOf) (old new : TablesOf) where
         lid,
         port.Switch channel.switch,
         record {
-          sends = sends;
-          start = channel.switch;
-          begins = refl;
           tables_at = moments one other;
           mixed = moments_mixed one other is too;
+          sends = inl sends;
+          start = channel.switch;
+          begins = refl;
           hops = 0;
           comes = refl;
           first = on;
@@ -112,7 +99,7 @@ module _ (fabric : FabricOf) (old new : TablesOf) where
       by true = is switch lid
       by false = too switch lid
 
-  pub at_once : (lid : ℕ) (channel next : Channel) → MayTakeBoth fabric old new lid channel next → Sends fabric All lid (port.Switch channel.switch) → channel.switch ≢ next.switch → (mixed : TablesOf) × IsMixture old new mixed × DependsOn fabric mixed All channel next
+  pub at_once : (lid : ℕ) (channel next : Channel) → MayTakeBoth fabric old new lid channel next → SendsToOwner fabric All lid (port.Switch channel.switch) → channel.switch ≢ next.switch → (mixed : TablesOf) × IsMixture old new mixed × DependsOn fabric mixed All channel next
   at_once lid channel next may sends apart =
       let (one, is, on) = taken_by lid channel.switch channel.port next.switch may.first in
       let (other, too, next_on) = taken_by lid next.switch next.port may.after may.second in
@@ -124,7 +111,7 @@ module _ (fabric : FabricOf) (old new : TablesOf) where
           lid,
           port.Switch channel.switch,
           record {
-            comes = record { sends = sends; start = channel.switch; begins = refl; hops = 0; comes = refl };
+            comes = record { sends = inl sends; start = channel.switch; begins = refl; hops = 0; comes = refl };
             first = hop_same fabric (parted one other channel.switch) one channel.switch lid (ap (λ (b : Bool). cond b (one channel.switch lid) (other channel.switch lid)) here) ∙ on;
             after = may.after;
             second = hop_same fabric (parted one other channel.switch) other next.switch lid (ap (λ (b : Bool). cond b (one next.switch lid) (other next.switch lid)) there) ∙ next_on;
@@ -149,7 +136,6 @@ module _ (fabric : FabricOf) (old emptied : TablesOf) (is : IsEmptied old emptie
   emptied_follows channel next (lid, may) = (
     lid,
     record {
-      sent = may.sent;
       first = took lid channel.switch channel.port next.switch may.first;
       after = may.after;
       second = took lid next.switch next.port may.after may.second;

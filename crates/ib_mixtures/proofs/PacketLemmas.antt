@@ -1,4 +1,5 @@
--- Where numbers fall from each channel to all by which it may be followed, waiting leads to a packet that can go.
+-- Where numbers fall from each channel to all by which it may be followed, as ranks do, waiting leads to a packet that can
+-- go.
 use Rattle.std.proofs.Common.{◌≡◌, ◌≢◌, sym, ap, subst, refl, ℕ, zero, suc, ◌<◌, ◌≤◌, List, [], ◌∷◌, length, inl, inr, arith}
 use Rattle.std.specs.Prelude.{Contains}
 use Rattle.std.proofs.lemmas.Bool.{cases_lt}
@@ -10,9 +11,12 @@ use Rattle.ib_routes.specs.declared.hop.Hop.TheVariants.{On, Arrive, Stop}
 use Rattle.ib_routes.specs.Routes.{Channel, hop}
 use Rattle.ib_routes.proofs.ChannelLemmas.{on_link}
 use Rattle.ib_verdict.specs.Packets.{Leaves, Packet, QueuesOf}
+use Rattle.ib_verdict.proofs.RankLemmas.{rank_of, value}
 use Rattle.ib_mixtures.specs.Mixtures.{IsMixture, MayBeFollowed, MayTake}
 use Rattle.ib_mixtures.specs.Packets.{AllStandWhile, ComesFree, FirstCanGo, StandsWhile, WaitsFor}
+use Rattle.ib_mixtures.specs.Verdict.{HasRanks}
 use Rattle.ib_mixtures.proofs.MixtureLemmas.{may_take}
+use Rattle.ib_mixtures.proofs.TurnLemmas.{are_channels}
 
 module _ (fabric : FabricOf) (old new : TablesOf) where
   -- a channel that may be taken leads to the switch
@@ -33,7 +37,6 @@ module _ (fabric : FabricOf) (old new : TablesOf) where
       follows out after on = (
         first.lid,
         record {
-          sent = stands.sent;
           first = stands.took;
           after = after;
           second = may_take fabric old new (looked_up channel) (mixed channel) first.lid stands.far out after on;
@@ -90,3 +93,13 @@ module _ (fabric : FabricOf) (old new : TablesOf) where
     pub comes_free : (fuel : ℕ) (channel : Channel) → rank channel < fuel → queue channel ≢ [] → ComesFree fabric looked_up room queue channel
     comes_free zero channel low full = absurd (omega arith)
     comes_free (suc fuel) channel low full = by_queue channel (λ next follows more. comes_free fuel next (let less = fall channel next follows in omega arith) more) full (queue channel) refl
+
+-- ranks are such numbers
+pub ranks_fall : (fabric : FabricOf) (old new : TablesOf) (ranks : List ℕ) → HasRanks fabric old new ranks → (channel next : Channel) → MayBeFollowed fabric old new channel next → rank_of fabric ranks next < rank_of fabric ranks channel
+ranks_fall fabric old new ranks has channel next follows =
+    let own = has.ranked.nodes channel (are_channels fabric old new channel next follows).0 in
+    let below = own.2.above next follows in
+    let here : rank_of fabric ranks channel ≡ own.0 = ap value own.1 in
+    let there : rank_of fabric ranks next ≡ below.0 = ap value below.1 in
+    let less = below.2 in
+    omega arith

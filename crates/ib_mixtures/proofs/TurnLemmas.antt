@@ -1,9 +1,8 @@
 -- The steps of the graph are the turns that packets may take.
 use Rattle.std.proofs.Common.{◌≡◌, ◌∙◌, sym, ap, subst, refl, ℕ, ◌+◌, ◌-◌, ◌*◌, ◌<◌, Bool, true, false, List, Option, cond, ltb, arith, length, get_or, inl, inr, ◌⊎◌, ◌↔◌, Some, None}
-use Rattle.std.specs.Prelude.{IsTrue, MatchOption}
-use Rattle.std.proofs.lemmas.Bool.{cases_eq, cases_lt}
+use Rattle.std.specs.Prelude.{IsTrue, MatchOption, is_some, not}
+use Rattle.std.proofs.lemmas.Bool.{cases_eq, cases_lt, false≢true}
 use Rattle.std.proofs.lemmas.Bool.Decides.{nat_tests}
-use Rattle.std.proofs.lemmas.List.{get_or_past}
 use Rattle.std.proofs.Math.Nat.{lt_of_mul-lt-mul_right}
 use Rattle.channel_graph.specs.Graph.{GraphOf, LeadsTo}
 use Rattle.ib_cells.specs.Cells.{CellsOf, TablesOf, place_of, port_of, tables_of}
@@ -15,9 +14,10 @@ use Rattle.ib_routes.specs.Routes.{Channel, hop, hop_by}
 use Rattle.ib_routes.specs.Waves.{IsGraphOf}
 use Rattle.ib_routes.proofs.ChannelLemmas.{channel_place, on_link, one_channel}
 use Rattle.ib_mixtures.specs.declared.turn.By.{By}
-use Rattle.ib_mixtures.specs.Mixtures.{IsSentTo, MayBeFollowed, MayTake}
-use Rattle.ib_mixtures.specs.Steps.{AreSteps, IsGrown, IsTurnAt, IsTurnBelow, IsTurnBy, IsTurnTo, by_of}
+use Rattle.ib_mixtures.specs.Mixtures.{MayBeFollowed, MayTake}
+use Rattle.ib_mixtures.specs.Steps.{ArePast, AreSteps, IsGrown, IsTurnAt, IsTurnBelow, IsTurnBy, IsTurnFrom, IsTurnTo, by_of}
 use Rattle.ib_mixtures.specs.Verdict.{GoesBy, IsBy, IsTurn}
+use Rattle.ib_mixtures.proofs.MixtureLemmas.{hop_same}
 use Rattle.ib_mixtures.proofs.GrowLemmas.{grown_as, grown_more, grown_none}
 
 -- the switch of a channel is one of the fabric
@@ -73,6 +73,21 @@ turn_put fabric first second lid at port next next_port after old new on next_on
   bases = bases;
 }
 
+-- a switch that sends what goes to a LID on has a row for it
+no_row : (fabric : FabricOf) (switch lid port next : ℕ) → hop_by fabric switch lid None ≡ On port next → ⊥
+no_row fabric switch lid port next on = cc
+
+has_row : (fabric : FabricOf) (tables : TablesOf) (switch lid port next : ℕ) → hop fabric tables switch lid ≡ On port next → tables switch lid ≡ None → ⊥
+unfolding hop
+has_row fabric tables switch lid port next on none = no_row fabric switch lid port next (sym (ap (λ (told : Option ℕ). hop_by fabric switch lid told) none) ∙ on)
+
+pub no_port : (port told : Option ℕ) (none : Bool) → port ≡ told → is_some port ≡ not none → none ≡ true → told ≡ None
+no_port port told none is says so = sym is ∙ by port (says ∙ ap not so)
+  where
+    by : (p : Option ℕ) → is_some p ≡ false → p ≡ None
+    by None free = refl
+    by (Some n) free = absurd (false≢true (sym free))
+
 -- there is none, since one of the hops does not go on
 pub first_ends : (fabric : FabricOf) (first second : TablesOf) (lid at : ℕ) (graph : GraphOf) → ((port next : ℕ) → hop fabric first at lid ≡ On port next → ⊥) → IsGrown (IsTurnBy fabric first second lid at) graph graph
 first_ends fabric first second lid at graph ends = grown_none (IsTurnBy fabric first second lid at) graph (λ one other turn. ends turn.port turn.next turn.on)
@@ -97,36 +112,49 @@ module _ (fabric : FabricOf) (old new : TablesOf) where
     is_other = turn.is_other;
   }
 
-  abbrev Two : ℕ → ℕ → ℕ → ℕ → Type 0
-  Two lid at one other = IsTurnBy fabric old old lid at one other ⊎ IsTurnBy fabric old new lid at one other
-
-  abbrev Three : ℕ → ℕ → ℕ → ℕ → Type 0
-  Three lid at one other = Two lid at one other ⊎ IsTurnBy fabric new old lid at one other
-
-  -- which of the four it is
-  which : (lid at one other : ℕ) → IsTurnAt fabric old new lid at one other → Three lid at one other ⊎ IsTurnBy fabric new new lid at one other
-  which lid at one other turn = by turn.on turn.next_on
+  -- by which of the two the first is taken
+  pub from_which : (lid at one other : ℕ) → IsTurnAt fabric old new lid at one other → IsTurnFrom fabric old old new lid at one other ⊎ IsTurnFrom fabric new old new lid at one other
+  from_which lid at one other turn = by turn.on turn.next_on
     where
       of : (first second : TablesOf) → hop fabric first at lid ≡ On turn.port turn.next → hop fabric second turn.next lid ≡ On turn.next_port turn.after → IsTurnBy fabric first second lid at one other
       of first second on next_on = record { port = turn.port; next = turn.next; on = on; next_port = turn.next_port; after = turn.after; next_on = next_on; is_one = turn.is_one; is_other = turn.is_other }
 
-      by : MayTake fabric old new lid at turn.port turn.next → MayTake fabric old new lid turn.next turn.next_port turn.after → Three lid at one other ⊎ IsTurnBy fabric new new lid at one other
-      by (inl on) (inl next_on) = inl (inl (inl (of old old on next_on)))
-      by (inl on) (inr next_on) = inl (inl (inr (of old new on next_on)))
-      by (inr on) (inl next_on) = inl (inr (of new old on next_on))
-      by (inr on) (inr next_on) = inr (of new new on next_on)
+      by : MayTake fabric old new lid at turn.port turn.next → MayTake fabric old new lid turn.next turn.next_port turn.after → IsTurnFrom fabric old old new lid at one other ⊎ IsTurnFrom fabric new old new lid at one other
+      by (inl on) (inl next_on) = inl (inl (of old old on next_on))
+      by (inl on) (inr next_on) = inl (inr (of old new on next_on))
+      by (inr on) (inl next_on) = inr (inl (of new old on next_on))
+      by (inr on) (inr next_on) = inr (inr (of new new on next_on))
 
-  pub four : (lid at : ℕ) (a b c d e : GraphOf) → IsGrown (IsTurnBy fabric old old lid at) a b → IsGrown (IsTurnBy fabric old new lid at) b c → IsGrown (IsTurnBy fabric new old lid at) c d → IsGrown (IsTurnBy fabric new new lid at) d e → IsGrown (IsTurnAt fabric old new lid at) a e
-  four lid at a b c d e first second third fourth =
-      let two = grown_more (IsTurnBy fabric old old lid at) (IsTurnBy fabric old new lid at) (Two lid at) a b c (λ one other either. either) (λ one other turn. inl turn) (λ one other turn. inr turn) first second in
-      let three = grown_more (Two lid at) (IsTurnBy fabric new old lid at) (Three lid at) a c d (λ one other either. either) (λ one other turn. inl turn) (λ one other turn. inr turn) two third in
-      grown_more (Three lid at) (IsTurnBy fabric new new lid at) (IsTurnAt fabric old new lid at) a d e (which lid at)
-      (λ one other turns. elim turns [
-        | inl (inl turn) ↦ turn_by old old lid at one other (λ s p n on. inl on) (λ s p n on. inl on) turn
-        | inl (inr turn) ↦ turn_by old new lid at one other (λ s p n on. inl on) (λ s p n on. inr on) turn
-        | inr turn ↦ turn_by new old lid at one other (λ s p n on. inr on) (λ s p n on. inl on) turn
-      ])
-      (λ one other turn. turn_by new new lid at one other (λ s p n on. inr on) (λ s p n on. inr on) turn) three fourth
+  from_old : (lid at one other : ℕ) → IsTurnFrom fabric old old new lid at one other → IsTurnAt fabric old new lid at one other
+  from_old lid at one other (inl turn) = turn_by old old lid at one other (λ s p n on. inl on) (λ s p n on. inl on) turn
+  from_old lid at one other (inr turn) = turn_by old new lid at one other (λ s p n on. inl on) (λ s p n on. inr on) turn
+
+  from_new : (lid at one other : ℕ) → IsTurnFrom fabric new old new lid at one other → IsTurnAt fabric old new lid at one other
+  from_new lid at one other (inl turn) = turn_by new old lid at one other (λ s p n on. inr on) (λ s p n on. inl on) turn
+  from_new lid at one other (inr turn) = turn_by new new lid at one other (λ s p n on. inr on) (λ s p n on. inr on) turn
+
+  pub each_way : (first : TablesOf) (lid at : ℕ) (a b c : GraphOf) → IsGrown (IsTurnBy fabric first old lid at) a b → IsGrown (IsTurnBy fabric first new lid at) b c → IsGrown (IsTurnFrom fabric first old new lid at) a c
+  each_way first lid at a b c one two = grown_more (IsTurnBy fabric first old lid at) (IsTurnBy fabric first new lid at) (IsTurnFrom fabric first old new lid at) a b c (λ one other either. either) (λ one other turn. inl turn) (λ one other turn. inr turn) one two
+
+  pub both_ways : (lid at : ℕ) (a b c : GraphOf) → IsGrown (IsTurnFrom fabric old old new lid at) a b → IsGrown (IsTurnFrom fabric new old new lid at) b c → IsGrown (IsTurnAt fabric old new lid at) a c
+  both_ways lid at a b c one two = grown_more (IsTurnFrom fabric old old new lid at) (IsTurnFrom fabric new old new lid at) (IsTurnAt fabric old new lid at) a b c (from_which lid at) (from_old lid at) (from_new lid at) one two
+
+  -- the new tables have the same port, or neither has one
+  pub same_way : (lid at : ℕ) (a b : GraphOf) → old at lid ≡ new at lid → IsGrown (IsTurnFrom fabric old old new lid at) a b → IsGrown (IsTurnAt fabric old new lid at) a b
+  same_way lid at a b same grown = grown_as (IsTurnFrom fabric old old new lid at) (IsTurnAt fabric old new lid at) a b (λ one other turn. elim (from_which lid at one other turn) [
+    | inl is ↦ is
+    | inr (inl is) ↦ inl (as_old old one other is)
+    | inr (inr is) ↦ inr (as_old new one other is)
+  ]) (from_old lid at) grown
+    where
+      as_old : (second : TablesOf) (one other : ℕ) → IsTurnBy fabric new second lid at one other → IsTurnBy fabric old second lid at one other
+      as_old second one other turn = record { port = turn.port; next = turn.next; on = hop_same fabric old new at lid same ∙ turn.on; next_port = turn.next_port; after = turn.after; next_on = turn.next_on; is_one = turn.is_one; is_other = turn.is_other }
+
+  pub no_way : (lid at : ℕ) (graph : GraphOf) → old at lid ≡ None → new at lid ≡ None → IsGrown (IsTurnAt fabric old new lid at) graph graph
+  no_way lid at graph none none_new = grown_none (IsTurnAt fabric old new lid at) graph (λ one other turn. elim turn.on [
+    | inl on ↦ has_row fabric old at lid turn.port turn.next on none
+    | inr on ↦ has_row fabric new at lid turn.port turn.next on none_new
+  ])
 
   -- the turns out of the switches so far
   pub none_below : (lid : ℕ) (graph : GraphOf) → IsGrown (IsTurnBelow fabric old new lid 0) graph graph
@@ -143,24 +171,16 @@ module _ (fabric : FabricOf) (old new : TablesOf) where
 
   -- .. and to the LIDs so far
   pub none_to : (switches : ℕ) (graph : GraphOf) → IsGrown (IsTurnTo fabric old new switches 0) graph graph
-  none_to switches graph = grown_none (IsTurnTo fabric old new switches 0) graph (λ one other (lid, less, sent, turn). absurd (omega arith))
+  none_to switches graph = grown_none (IsTurnTo fabric old new switches 0) graph (λ one other (lid, less, turn). absurd (omega arith))
 
-  pub one_to : (switches lid : ℕ) (a b c : GraphOf) → IsSentTo fabric lid → IsGrown (IsTurnTo fabric old new switches lid) a b → IsGrown (IsTurnBelow fabric old new lid switches) b c → IsGrown (IsTurnTo fabric old new switches (lid + 1)) a c
-  one_to switches lid a b c sent before here = grown_more (IsTurnTo fabric old new switches lid) (IsTurnBelow fabric old new lid switches) (IsTurnTo fabric old new switches (lid + 1)) a b c
-      (λ one other (to, less, is, turn). elim (cases_eq to lid) [
+  pub one_to : (switches lid : ℕ) (a b c : GraphOf) → IsGrown (IsTurnTo fabric old new switches lid) a b → IsGrown (IsTurnBelow fabric old new lid switches) b c → IsGrown (IsTurnTo fabric old new switches (lid + 1)) a c
+  one_to switches lid a b c before here = grown_more (IsTurnTo fabric old new switches lid) (IsTurnBelow fabric old new lid switches) (IsTurnTo fabric old new switches (lid + 1)) a b c
+      (λ one other (to, less, turn). elim (cases_eq to lid) [
         | inl same ↦ inr (subst (λ (k : ℕ). IsTurnBelow fabric old new k switches one other) same turn)
-        | inr away ↦ inl (to, omega arith, is, turn)
+        | inr away ↦ inl (to, omega arith, turn)
       ])
-      (λ one other (to, less, is, turn). (to, omega arith, is, turn))
-      (λ one other turn. (lid, omega arith, sent, turn)) before here
-
-  pub other_to : (switches lid : ℕ) (a b : GraphOf) → (IsSentTo fabric lid → ⊥) → IsGrown (IsTurnTo fabric old new switches lid) a b → IsGrown (IsTurnTo fabric old new switches (lid + 1)) a b
-  other_to switches lid a b not before = grown_as (IsTurnTo fabric old new switches lid) (IsTurnTo fabric old new switches (lid + 1)) a b
-      (λ one other (to, less, is, turn). elim (cases_eq to lid) [
-        | inl same ↦ absurd (not (subst (λ (k : ℕ). IsSentTo fabric k) same is))
-        | inr away ↦ (to, omega arith, is, turn)
-      ])
-      (λ one other (to, less, is, turn). (to, omega arith, is, turn)) before
+      (λ one other (to, less, turn). (to, omega arith, turn))
+      (λ one other turn. (lid, omega arith, turn)) before here
 
   -- channels that may follow one another
   may_channel : (lid switch port next : ℕ) → MayTake fabric old new lid switch port next → (entry : ℕ) × IsChannel fabric (record { switch = switch; port = port })
@@ -170,10 +190,14 @@ module _ (fabric : FabricOf) (old new : TablesOf) where
   pub are_channels : (channel next : Channel) → MayBeFollowed fabric old new channel next → IsChannel fabric channel × IsChannel fabric next
   are_channels channel next (lid, may) = ((may_channel lid channel.switch channel.port next.switch may.first).1, (may_channel lid next.switch next.port may.after may.second).1)
 
-  pub sent_low : (lid : ℕ) → IsSentTo fabric lid → lid < length fabric.owners
-  sent_low lid (owner, owns, target) = elim (cases_lt lid (length fabric.owners)) [
-    | inl low ↦ low
-    | inr past ↦ absurd (let none = get_or_past fabric.owners lid None past in cc)
+  -- a LID by which they are has a row
+  pub lid_low : (lids : ℕ) → ArePast old new lids → (lid switch port next : ℕ) → MayTake fabric old new lid switch port next → lid < lids
+  lid_low lids past lid switch port next may = elim (cases_lt lid lids) [
+    | inl less ↦ less
+    | inr over ↦ (let none = past switch lid over in elim may [
+      | inl on ↦ absurd (has_row fabric old switch lid port next on none.0)
+      | inr on ↦ absurd (has_row fabric new switch lid port next on none.1)
+    ])
   ]
 
   pub first_low : IsFabric fabric → (channel next : Channel) → MayBeFollowed fabric old new channel next → channel.switch < switch_count fabric
@@ -182,7 +206,7 @@ module _ (fabric : FabricOf) (old new : TablesOf) where
   pub second_low : IsFabric fabric → (channel next : Channel) → MayBeFollowed fabric old new channel next → next.switch < switch_count fabric
   second_low fits channel next (lid, may) = low fabric fits next (may_channel lid next.switch next.port may.after may.second).1
 
--- a switch that sends what goes to a LID on has a row for it
+-- a switch that sends what goes to a LID on is one of those that have rows
 row_low : (fabric : FabricOf) (cells : CellsOf) (switch lid port next : ℕ) → hop fabric (tables_of cells) switch lid ≡ On port next → switch < cells.switches
 unfolding hop
 row_low fabric cells switch lid port next on = elim (cases_lt switch cells.switches) [
@@ -200,14 +224,14 @@ module _ (fabric : FabricOf) (old new : CellsOf) (same : switch_count fabric ≡
   may_low lid switch port next (inr on) = let low = row_low fabric new switch lid port next on in omega arith
 
   -- a graph that has gained all turns has just the steps between channels that may follow one another
-  pub all_turns : (a b : GraphOf) → IsGraphOf fabric a → ((one other : ℕ) → LeadsTo a one other → ⊥) → IsGrown (IsTurnTo fabric (tables_of old) (tables_of new) (switch_count fabric) (length fabric.owners)) a b → AreSteps fabric (MayBeFollowed fabric (tables_of old) (tables_of new)) b
-  all_turns a b rows none grown = all_steps fabric (MayBeFollowed fabric (tables_of old) (tables_of new)) (are_channels fabric (tables_of old) (tables_of new)) a b rows none grown.bases (λ one other. (
+  pub all_turns : (lids : ℕ) (a b : GraphOf) → ArePast (tables_of old) (tables_of new) lids → IsGraphOf fabric a → ((one other : ℕ) → LeadsTo a one other → ⊥) → IsGrown (IsTurnTo fabric (tables_of old) (tables_of new) (switch_count fabric) lids) a b → AreSteps fabric (MayBeFollowed fabric (tables_of old) (tables_of new)) b
+  all_turns lids a b past rows none grown = all_steps fabric (MayBeFollowed fabric (tables_of old) (tables_of new)) (are_channels fabric (tables_of old) (tables_of new)) a b rows none grown.bases (λ one other. (
     λ leads. elim ((grown.leads one other).0 leads) [
       | inl had ↦ inl had
-      | inr (lid, less, sent, (at, low_at, turn)) ↦ inr (
+      | inr (lid, less, (at, low_at, turn)) ↦ inr (
         record { switch = at; port = turn.port },
         record { switch = turn.next; port = turn.next_port },
-        (lid, record { sent = sent; first = turn.on; after = turn.after; second = turn.next_on }),
+        (lid, record { first = turn.on; after = turn.after; second = turn.next_on }),
         turn.is_one,
         turn.is_other,
       )
@@ -216,8 +240,7 @@ module _ (fabric : FabricOf) (old new : CellsOf) (same : switch_count fabric ≡
       | inl had ↦ (grown.leads one other).1 (inl had)
       | inr (channel, next, (lid, may), is_one, is_other) ↦ (grown.leads one other).1 (inr (
         lid,
-        sent_low fabric (tables_of old) (tables_of new) lid may.sent,
-        may.sent,
+        lid_low fabric (tables_of old) (tables_of new) lids past lid channel.switch channel.port next.switch may.first,
         (
           channel.switch,
           may_low lid channel.switch channel.port next.switch may.first,
@@ -263,9 +286,8 @@ module _ (fabric : FabricOf) (old new : TablesOf) (channel next : Channel) (lid 
   next_new : IsTrue d ↔ GoesBy fabric new lid next
   next_new = as_hop Past d s (hop fabric new next.switch lid) (is_s ∙ ap (λ (n : ℕ). hop fabric new next.switch n) here) tells_d
 
-  pub turn_is : IsSentTo fabric at → (by_first by_next : By) → by_of a b ≡ Some by_first → by_of c d ≡ Some by_next → IsTurn fabric old new channel next (record { lid = lid; by = by_first; next_by = by_next })
-  turn_is sent by_first by_next some some_next = record {
-    sent = subst (λ (n : ℕ). IsSentTo fabric n) here sent;
+  pub turn_is : (by_first by_next : By) → by_of a b ≡ Some by_first → by_of c d ≡ Some by_next → IsTurn fabric old new channel next (record { lid = lid; by = by_first; next_by = by_next })
+  turn_is by_first by_next some some_next = record {
     by = told_by (To (hop fabric old channel.switch lid)) (To (hop fabric new channel.switch lid)) a b by_first some first_old first_new;
     next_by = told_by (GoesBy fabric old lid next) (GoesBy fabric new lid next) c d by_next some_next next_old next_new;
   }

@@ -1,8 +1,9 @@
 -- The verdict on the graph, of the channels.
-use Rattle.std.proofs.Common.{◌≡◌, ◌∙◌, sym, ap, subst, refl, ℕ, ◌<◌, max, List, [], ◌∷◌, None, map, arith}
+use Rattle.std.proofs.Common.{◌≡◌, ◌∙◌, sym, ap, subst, refl, ℕ, ◌<◌, max, List, [], ◌∷◌, None, Bool, true, false, map, arith}
 use Rattle.std.specs.Prelude.{slice_get}
+use Rattle.std.specs.Bool.{OnFalse, OnTrue}
 use Rattle.std.specs.Ordering.{nat_cmp}
-use Rattle.channel_graph.specs.Cycles.{AreRanks, HasNoCycle, IsLeastCycle}
+use Rattle.channel_graph.specs.Cycles.{AreRanks, HasNoCycle, IsCycle, IsLeastCycle}
 use Rattle.channel_graph.specs.Graph.{GraphOf, IsNode, LeadsTo}
 use Rattle.channel_graph.specs.Verdict.{Passes}
 use Rattle.channel_graph.proofs.NumberLemmas.{least_cycle, no_cycle, ranks}
@@ -18,8 +19,8 @@ use Rattle.ib_verdict.specs.Steps.{IsStep}
 use Rattle.ib_verdict.specs.Verdict.{channel_cmp, rank_in, rank_over, spot_at}
 use Rattle.ib_verdict.proofs.NumberLemmas.{channel_at, channel_back, in_order, rank_none}
 use Rattle.ib_mixtures.specs.declared.judge.LoopChannel.{LoopChannel}
-use Rattle.ib_mixtures.specs.Steps.{AreSteps}
-use Rattle.ib_mixtures.specs.Verdict.{IsLeastTurn}
+use Rattle.ib_mixtures.specs.Steps.{AreSteps, looped_by}
+use Rattle.ib_mixtures.specs.Verdict.{HasLoop, HasNoLoop, IsLeastTurn, IsLooped}
 use Rattle.ib_verdict.proofs.CountLemmas.{count_of_steps, number_back}
 
 -- a channel that is told, and what is told with it and the next one
@@ -55,6 +56,16 @@ module _ (fabric : FabricOf) (Step : Channel → Channel → Type 0) (both : (on
       let cycle = least_cycle (IsChannel fabric) (number fabric) (channel_at fabric.most) (channel_back fabric) Step both (LeadsTo g) are.exact are.only channel_cmp (in_order fabric) places least in
       subst (λ (xs : List Spot). IsLeastCycle channel_cmp Step (map channel_of xs)) (sym (is ∙ ap (λ (m : ℕ). map (spot_at m) places) same)) (subst (λ (xs : List Channel). IsLeastCycle channel_cmp Step xs) (sym (maps fabric.most places)) cycle)
 
+  -- a closed walk, if the graph has one
+  pub leads_round : (places : List ℕ) → IsLeastCycle nat_cmp (LeadsTo g) places → (start : Channel) × (rest : List Channel) × IsCycle Step start rest
+  leads_round places least =
+      let most = max fabric.most 1 in
+      closed (map channel_of (map (spot_at most) places)) (least_loop most places (map (spot_at most) places) refl refl least)
+    where
+      closed : (channels : List Channel) → IsLeastCycle channel_cmp Step channels → (start : Channel) × (rest : List Channel) × IsCycle Step start rest
+      closed [] none = absurd none
+      closed (start ∷ rest) is = (start, rest, is.from.closed)
+
   pub none_round : (list : List ℕ) → Passes g list → HasNoCycle Step
   none_round list passes = no_cycle (IsChannel fabric) (number fabric) (channel_at fabric.most) (channel_back fabric) Step both (LeadsTo g) are.exact are.only passes.no_cycle
 
@@ -73,3 +84,10 @@ module _ (fabric : FabricOf) (Step : Channel → Channel → Type 0) (both : (on
   -- as many steps of the graph as there are pairs of channels
   pub pairs : (count : ℕ) → IsCountOf (IsStep g) count → IsCountOf (λ (pair : Channel × Channel). Step pair.0 pair.1) count
   pairs count is = count_of_steps (IsChannel fabric) (number fabric) (channel_at fabric.most) (channel_back fabric) (number_back fabric) Step both g are.exact are.only count is
+
+-- which of two tables have a loop
+pub looped_is : (fabric : FabricOf) (old new : TablesOf) (is_old is_new : Bool) → OnTrue is_old (HasLoop fabric old) → OnFalse is_old (HasNoLoop fabric old) → OnTrue is_new (HasLoop fabric new) → OnFalse is_new (HasNoLoop fabric new) → IsLooped fabric old new (looped_by is_old is_new)
+looped_is fabric old new true true has none has_new none_new = (has, has_new)
+looped_is fabric old new true false has none has_new none_new = (has, none_new)
+looped_is fabric old new false true has none has_new none_new = (none, has_new)
+looped_is fabric old new false false has none has_new none_new = (none, none_new)

@@ -1,30 +1,23 @@
 -- While tables are replaced each row stands for the old or for the new one, in any mixture.
-use Rattle.std.specs.Prelude.{◌≡◌, ◌⊎◌, ℕ, Some, None}
+use Rattle.std.specs.Prelude.{◌≡◌, ◌⊎◌, ℕ, None}
 use Rattle.ib_cells.specs.Cells.{TablesOf}
-use Rattle.ib_net.specs.declared.node.EndPort.{EndPort}
-use Rattle.ib_net.specs.Fabric.{FabricOf, owner_of}
+use Rattle.ib_net.specs.Fabric.{FabricOf}
 use Rattle.ib_routes.specs.declared.hop.Hop.TheVariants.{On}
-use Rattle.ib_routes.specs.declared.traffic.Traffic.TheVariants.{All}
-use Rattle.ib_routes.specs.Routes.{Channel, IsTarget, hop}
+use Rattle.ib_routes.specs.Routes.{Channel, hop}
 
 -- tables are a mixture of two others: each entry is that of the one or of the other
 abbrev pub IsMixture : (old new mixed : TablesOf) → Type 0
 IsMixture old new mixed =
     (switch lid : ℕ) → (mixed switch lid ≡ old switch lid) ⊎ (mixed switch lid ≡ new switch lid)
 
--- a LID has an owner to which others send
-abbrev pub IsSentTo : FabricOf → ℕ → Type 0
-IsSentTo fabric lid = (owner : EndPort) × (owner_of fabric lid ≡ Some owner) × IsTarget fabric All owner
-
 -- by one of two tables a switch sends what goes to a LID out of a port, to another switch
 abbrev pub MayTake : FabricOf → (old new : TablesOf) → (lid switch port next : ℕ) → Type 0
 MayTake fabric old new lid switch port next =
     (hop fabric old switch lid ≡ On port next) ⊎ (hop fabric new switch lid ≡ On port next)
 
--- what goes to a LID may hold a channel and ask for another one: it may take the one, which leads to the switch of the
--- other, and may take the other there
+-- what goes to a LID, whoever owns it, may hold a channel and ask for another one: it may take the one, which leads to the
+-- switch of the other, and may take the other there
 pub record MayTakeBoth (fabric : FabricOf) (old new : TablesOf) (lid : ℕ) (channel next : Channel) : Type 0 where
-  pub sent : IsSentTo fabric lid
   pub first : MayTake fabric old new lid channel.switch channel.port next.switch
   pub after : ℕ
   pub second : MayTake fabric old new lid next.switch next.port after

@@ -15,15 +15,16 @@ MovesBy fabric tables_at lid (suc hops) start at =
     (before port : ℕ) × MovesBy fabric tables_at lid hops start before
     × (hop fabric (tables_at hops) before lid ≡ On port at)
 
--- a packet takes a channel and then, directly, another one; the tables of each moment are a mixture
+-- a packet, which is sent by the tables of the first moment, takes a channel and then, directly, another one; the tables
+-- of each moment are a mixture
 pub record TakesWhile (fabric : FabricOf) (old new : TablesOf) (traffic : Traffic) (lid : ℕ) (source : EndPort)
     (channel next : Channel)
     : Type 0 where
-  pub sends : Sends fabric traffic lid source
-  pub start : ℕ
-  pub begins : start_of fabric source ≡ Some start
   pub tables_at : ℕ → TablesOf
   pub mixed : (moment : ℕ) → IsMixture old new (tables_at moment)
+  pub sends : Sends fabric (tables_at 0) traffic lid source
+  pub start : ℕ
+  pub begins : start_of fabric source ≡ Some start
   pub hops : ℕ
   pub comes : MovesBy fabric tables_at lid hops start channel.switch
   pub first : hop fabric (tables_at hops) channel.switch lid ≡ On channel.port next.switch

@@ -7,11 +7,10 @@ use Rattle.ib_net.specs.Fabric.{FabricOf, side_of}
 use Rattle.ib_routes.specs.declared.hop.Hop.TheVariants.{On}
 use Rattle.ib_routes.specs.Routes.{Channel, hop}
 use Rattle.ib_verdict.specs.Packets.{Leaves, Packet, QueuesOf}
-use Rattle.ib_mixtures.specs.Mixtures.{IsSentTo, MayTake}
+use Rattle.ib_mixtures.specs.Mixtures.{MayTake}
 
--- a packet stands in a channel: by one of two tables the channel was taken for its LID
+-- a packet stands in a channel: by one of two tables the channel was taken for its LID, whoever owns that
 pub record StandsWhile (fabric : FabricOf) (old new : TablesOf) (channel : Channel) (packet : Packet) : Type 0 where
-  pub sent : IsSentTo fabric packet.lid
   pub far : ℕ
   pub took : MayTake fabric old new packet.lid channel.switch channel.port far
 

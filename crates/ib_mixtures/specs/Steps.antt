@@ -1,5 +1,5 @@
 -- How the graph of the channels that may follow one another is made. Only private functions and proofs cite this.
-use Rattle.std.specs.Prelude.{◌≡◌, ◌<◌, ◌⊎◌, ◌↔◌, ◌+◌, ◌-◌, ◌*◌, ℕ, Bool, true, false, Option, Some, None, length}
+use Rattle.std.specs.Prelude.{◌≡◌, ◌<◌, ◌≤◌, ◌⊎◌, ◌↔◌, ◌+◌, ◌-◌, ◌*◌, ℕ, Bool, true, false, Option, Some, None, length}
 use Rattle.channel_graph.specs.Graph.{GraphOf, LeadsTo}
 use Rattle.ib_cells.specs.Cells.{TablesOf}
 use Rattle.ib_net.specs.Fabric.{FabricOf, switch_count}
@@ -8,7 +8,9 @@ use Rattle.ib_routes.specs.Found.{IsChannel, number}
 use Rattle.ib_routes.specs.Routes.{Channel, hop}
 use Rattle.ib_mixtures.specs.declared.turn.By.{By}
 use Rattle.ib_mixtures.specs.declared.turn.By.TheVariants.{Old, New, Both}
-use Rattle.ib_mixtures.specs.Mixtures.{IsSentTo, MayTake}
+use Rattle.ib_mixtures.specs.declared.looped.Looped.{Looped}
+use Rattle.ib_mixtures.specs.declared.looped.Looped.TheVariants as looped
+use Rattle.ib_mixtures.specs.Mixtures.{MayTake}
 use Rattle.ib_mixtures.specs.Verdict.{IsChanged}
 
 -- a graph has just these steps between channels
@@ -39,6 +41,11 @@ pub record IsTurnBy (fabric : FabricOf) (first second : TablesOf) (lid at one ot
   pub is_one : one ≡ at * fabric.most + (port - 1)
   pub is_other : other ≡ next * fabric.most + (next_port - 1)
 
+-- the same, to one by the old or by the new tables
+abbrev pub IsTurnFrom : FabricOf → (first old new : TablesOf) → (lid at one other : ℕ) → Type 0
+IsTurnFrom fabric first old new lid at one other =
+    IsTurnBy fabric first old lid at one other ⊎ IsTurnBy fabric first new lid at one other
+
 -- the same, each by the old or by the new tables
 pub record IsTurnAt (fabric : FabricOf) (old new : TablesOf) (lid at one other : ℕ) : Type 0 where
   pub port : ℕ
@@ -50,14 +57,18 @@ pub record IsTurnAt (fabric : FabricOf) (old new : TablesOf) (lid at one other :
   pub is_one : one ≡ at * fabric.most + (port - 1)
   pub is_other : other ≡ next * fabric.most + (next_port - 1)
 
--- out of any of the first so many switches, and to any of the first so many LIDs that are sent to
+-- out of any of the first so many switches, and to any of the first so many LIDs
 abbrev pub IsTurnBelow : FabricOf → (old new : TablesOf) → (lid switches one other : ℕ) → Type 0
 IsTurnBelow fabric old new lid switches one other =
     (at : ℕ) × (at < switches) × IsTurnAt fabric old new lid at one other
 
 abbrev pub IsTurnTo : FabricOf → (old new : TablesOf) → (switches lids one other : ℕ) → Type 0
 IsTurnTo fabric old new switches lids one other =
-    (lid : ℕ) × (lid < lids) × IsSentTo fabric lid × IsTurnBelow fabric old new lid switches one other
+    (lid : ℕ) × (lid < lids) × IsTurnBelow fabric old new lid switches one other
+
+-- two tables have no port for LIDs past a number
+abbrev pub ArePast : (old new : TablesOf) → ℕ → Type 0
+ArePast old new lids = (switch lid : ℕ) → lids ≤ lid → (old switch lid ≡ None) × (new switch lid ≡ None)
 
 -- by which of two tables, if by any
 abbrev pub by_of : (by_old by_new : Bool) → Option By
@@ -65,6 +76,13 @@ by_of true true = Some Both
 by_of true false = Some Old
 by_of false true = Some New
 by_of false false = None
+
+-- which of two tables have a loop, by whether each has
+abbrev pub looped_by : (is_old is_new : Bool) → Looped
+looped_by true true = looped.Both
+looped_by true false = looped.Old
+looped_by false true = looped.New
+looped_by false false = looped.Mixture
 
 -- of the changed rows those for one LID, of the first so many switches, and those for the first so many LIDs
 abbrev pub IsChangedFor : FabricOf → (old new : TablesOf) → (lid switches : ℕ) → ℕ × ℕ → Type 0

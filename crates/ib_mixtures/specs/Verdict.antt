@@ -1,6 +1,6 @@
 -- The verdict on two tables of a fabric.
 use Rattle.std.specs.Prelude.{◌≡◌, ◌≢◌, ◌<◌, ◌≤◌, ◌+◌, ◌%◌, ℕ, List, Some, length, map, slice_get}
-use Rattle.channel_graph.specs.Cycles.{HasNoCycle, IsLeastCycle, AreRanks}
+use Rattle.channel_graph.specs.Cycles.{AreRanks, HasNoCycle, IsCycle, IsLeastCycle}
 use Rattle.ib_cells.specs.Cells.{TablesOf}
 use Rattle.ib_net.specs.declared.node.Spot.{Spot}
 use Rattle.ib_net.specs.Fabric.{FabricOf, switch_count}
@@ -12,11 +12,13 @@ use Rattle.ib_verdict.specs.Verdict.{channel_cmp, rank_in}
 use Rattle.ib_mixtures.specs.declared.turn.By.{By}
 use Rattle.ib_mixtures.specs.declared.turn.By.TheVariants.{Old, New, Both}
 use Rattle.ib_mixtures.specs.declared.turn.Turn.{Turn}
+use Rattle.ib_mixtures.specs.declared.looped.Looped.{Looped}
+use Rattle.ib_mixtures.specs.declared.looped.Looped.TheVariants as looped
 use Rattle.ib_mixtures.specs.declared.judge.LoopChannel.{LoopChannel}
 use Rattle.ib_mixtures.specs.declared.judge.Judgement.{Judgement}
 use Rattle.ib_mixtures.specs.declared.judge.Verdict.{Verdict}
 use Rattle.ib_mixtures.specs.declared.judge.Verdict.TheVariants.{Ranks, Cycle}
-use Rattle.ib_mixtures.specs.Mixtures.{IsSentTo, MayBeFollowed, MayTakeBoth}
+use Rattle.ib_mixtures.specs.Mixtures.{MayBeFollowed, MayTakeBoth}
 
 -- of two tables, the old and the new, by which something is so
 abbrev pub IsBy : (by_old by_new : Type 0) → By → Type 0
@@ -30,7 +32,6 @@ GoesBy fabric tables lid channel = (after : ℕ) × (hop fabric tables channel.s
 
 -- what goes to a LID may take a channel and then another one, each by these tables
 pub record IsTurn (fabric : FabricOf) (old new : TablesOf) (channel next : Channel) (turn : Turn) : Type 0 where
-  pub sent : IsSentTo fabric turn.lid
   pub by :
       IsBy (hop fabric old channel.switch turn.lid ≡ On channel.port next.switch)
       (hop fabric new channel.switch turn.lid ≡ On channel.port next.switch) turn.by
@@ -61,10 +62,26 @@ pub record CycleIs (fabric : FabricOf) (old new : TablesOf) (found : List LoopCh
   pub least : IsLeastCycle channel_cmp (MayBeFollowed fabric old new) (map channel_of (spots_in found))
   pub turns : AreTurns fabric old new (spots_in found) found
 
--- the ranks of the channels, or the least cycle
+-- by some tables alone channels that may follow one another lead round, or none do
+abbrev pub HasLoop : FabricOf → TablesOf → Type 0
+HasLoop fabric tables =
+    (channel : Channel) × (rest : List Channel) × IsCycle (MayBeFollowed fabric tables tables) channel rest
+
+abbrev pub HasNoLoop : FabricOf → TablesOf → Type 0
+HasNoLoop fabric tables = HasNoCycle (MayBeFollowed fabric tables tables)
+
+-- which of two tables have a loop by them alone; where neither has, only tables with rows of both may have one
+abbrev pub IsLooped : FabricOf → (old new : TablesOf) → Looped → Type 0
+IsLooped fabric old new looped.Old = HasLoop fabric old × HasNoLoop fabric new
+IsLooped fabric old new looped.New = HasNoLoop fabric old × HasLoop fabric new
+IsLooped fabric old new looped.Both = HasLoop fabric old × HasLoop fabric new
+IsLooped fabric old new looped.Mixture = HasNoLoop fabric old × HasNoLoop fabric new
+
+-- the ranks of the channels; or the least cycle, and which of the tables have a loop
 abbrev pub IsVerdict : FabricOf → (old new : TablesOf) → Verdict → Type 0
 IsVerdict fabric old new (Ranks ranks) = HasRanks fabric old new ranks.items
-IsVerdict fabric old new (Cycle channels) = CycleIs fabric old new channels.items
+IsVerdict fabric old new (Cycle channels looped) =
+    CycleIs fabric old new channels.items × IsLooped fabric old new looped
 
 -- two channels, of which the first may be followed by the second
 abbrev pub IsFollowed : FabricOf → (old new : TablesOf) → Channel × Channel → Type 0
@@ -75,8 +92,7 @@ pub record IsJudgement (fabric : FabricOf) (old new : TablesOf) (judged : Judgem
   pub verdict : IsVerdict fabric old new judged.verdict
   pub dependencies : IsCountOf (IsFollowed fabric old new) judged.dependencies
 
--- a row that is changed: a switch, and a LID that is sent to, for which the tables have not the same entry
+-- a row that is changed: a switch, and a LID, whoever owns it, for which the tables have not the same entry
 pub record IsChanged (fabric : FabricOf) (old new : TablesOf) (row : ℕ × ℕ) : Type 0 where
   pub switch : row.0 < switch_count fabric
-  pub sent : IsSentTo fabric row.1
   pub differs : old row.0 row.1 ≢ new row.0 row.1

@@ -1,20 +1,19 @@
 //! The graph of the channels that may follow one another.
 
-ghost use Rattle.std.specs.Prelude.{◌≡◌, ◌<◌, ◌≤◌, ◌*◌, ℕ, IfOk, length};
+ghost use Rattle.std.specs.Prelude.{◌≡◌, ◌<◌, IfOk};
 ghost use Rattle.ib_cells.specs.Cells.{tables_of};
 ghost use Rattle.ib_net.specs.Fabric.{switch_count};
 ghost use Rattle.ib_routes.specs.Waves.{IsGraphOf};
 ghost use Rattle.ib_mixtures.specs.Mixtures.{MayBeFollowed};
-ghost use Rattle.ib_mixtures.specs.Steps.{AreSteps, IsGrown, IsTurnAt, IsTurnBelow, IsTurnBy, IsTurnTo};
+ghost use Rattle.ib_mixtures.specs.Steps.{AreSteps, IsGrown, IsTurnAt, IsTurnBelow, IsTurnBy, IsTurnFrom, IsTurnTo};
 
+use crate::look::{are_same, hop_for, lids_of, port_for};
 use an_base::memory::OutOfMemory;
 use channel_graph::graph::Graph;
 use ib_cells::cells::Cells;
 use ib_net::fabric::Fabric;
 use ib_routes::find::no_dependencies;
-use ib_routes::hop::{Hop, hop_at};
-use ib_routes::start::is_target;
-use ib_routes::traffic::Traffic;
+use ib_routes::hop::Hop;
 use std::alloc::Global;
 
 // Adds the step of what goes to a LID from a channel out of a switch, by the first tables, to one out of the next
@@ -30,42 +29,65 @@ fn add_turn(
 )
     requires same { switch_count fabric.now ≡ first.now.switches }
     requires same_second { switch_count fabric.now ≡ second.now.switches }
-    requires lid { lid < 64 * first.now.blocks }
-    requires lid_second { lid < 64 * second.now.blocks }
     requires at { at < switch_count fabric.now }
     requires graph { IsGraphOf fabric.now graph.old }
     ensures { IsGrown (IsTurnBy fabric.now (tables_of first.now) (tables_of second.now) lid at) graph.old graph.new }
 {
-    if let Hop::On(port, next) = hop_at(fabric, first, at, lid) {
-        if let Hop::On(next_port, _after) = hop_at(fabric, second, next as usize, lid) {
+    if let Hop::On(port, next) = hop_for(fabric, first, at, lid) {
+        if let Hop::On(next_port, _after) = hop_for(fabric, second, next as usize, lid) {
             let channel = at * fabric.most() + (usize::from(port) - 1);
             graph.insert(channel, usize::from(next_port) - 1);
         }
     }
 }
 
-// Adds those by the old and by the new tables, each way.
+// The same, to the next channel by the old and by the new tables.
+fn add_from(
+    fabric: &Fabric,
+    first: &Cells,
+    old: &Cells,
+    new: &Cells,
+    lid: usize,
+    at: usize,
+    graph: &mut Graph,
+)
+    requires same_first { switch_count fabric.now ≡ first.now.switches }
+    requires same { switch_count fabric.now ≡ old.now.switches }
+    requires same_new { switch_count fabric.now ≡ new.now.switches }
+    requires at { at < switch_count fabric.now }
+    requires graph { IsGraphOf fabric.now graph.old }
+    ensures { IsGrown
+        (IsTurnFrom fabric.now (tables_of first.now) (tables_of old.now) (tables_of new.now) lid at)
+        graph.old graph.new }
+{
+    add_turn(fabric, first, old, lid, at, graph);
+    add_turn(fabric, first, new, lid, at, graph);
+}
+
+// The same by the old and by the new tables. Most rows name no port, or the same in both.
 fn add_turns(fabric: &Fabric, old: &Cells, new: &Cells, lid: usize, at: usize, graph: &mut Graph)
     requires same { switch_count fabric.now ≡ old.now.switches }
     requires same_new { switch_count fabric.now ≡ new.now.switches }
-    requires lid { lid < 64 * old.now.blocks }
-    requires lid_new { lid < 64 * new.now.blocks }
     requires at { at < switch_count fabric.now }
     requires graph { IsGraphOf fabric.now graph.old }
     ensures { IsGrown (IsTurnAt fabric.now (tables_of old.now) (tables_of new.now) lid at) graph.old graph.new }
 {
-    add_turn(fabric, old, old, lid, at, graph);
-    add_turn(fabric, old, new, lid, at, graph);
-    add_turn(fabric, new, old, lid, at, graph);
-    add_turn(fabric, new, new, lid, at, graph);
+    let was = port_for(old, at, lid);
+    let is = port_for(new, at, lid);
+    if was.is_none() && is.is_none() {
+        return;
+    }
+    add_from(fabric, old, old, new, lid, at, graph);
+    if are_same(was, is) {
+        return;
+    }
+    add_from(fabric, new, old, new, lid, at, graph);
 }
 
 // The same of all switches.
 fn add_lid(fabric: &Fabric, old: &Cells, new: &Cells, lid: usize, graph: &mut Graph)
     requires same { switch_count fabric.now ≡ old.now.switches }
     requires same_new { switch_count fabric.now ≡ new.now.switches }
-    requires lid { lid < 64 * old.now.blocks }
-    requires lid_new { lid < 64 * new.now.blocks }
     requires graph { IsGraphOf fabric.now graph.old }
     ensures { IsGrown
         (IsTurnBelow fabric.now (tables_of old.now) (tables_of new.now) lid (switch_count fabric.now))
@@ -76,25 +98,20 @@ fn add_lid(fabric: &Fabric, old: &Cells, new: &Cells, lid: usize, graph: &mut Gr
     }
 }
 
-// The same of all LIDs that are sent to.
-fn add_lids(fabric: &Fabric, old: &Cells, new: &Cells, graph: &mut Graph)
+// The same of all LIDs below a number.
+fn add_lids(fabric: &Fabric, old: &Cells, new: &Cells, lids: usize, graph: &mut Graph)
     requires same { switch_count fabric.now ≡ old.now.switches }
     requires same_new { switch_count fabric.now ≡ new.now.switches }
-    requires owners { length fabric.now.owners ≤ 64 * old.now.blocks }
-    requires owners_new { length fabric.now.owners ≤ 64 * new.now.blocks }
     requires graph { IsGraphOf fabric.now graph.old }
-    ensures { IsGrown
-        (IsTurnTo fabric.now (tables_of old.now) (tables_of new.now) (switch_count fabric.now)
-        (length fabric.now.owners)) graph.old graph.new }
+    ensures { IsGrown (IsTurnTo fabric.now (tables_of old.now) (tables_of new.now) (switch_count fabric.now) lids)
+        graph.old graph.new }
 {
-    'lids: for lid in 0..fabric.lids() {
-        if is_target(fabric, Traffic::All, lid) {
-            add_lid(fabric, old, new, lid, graph);
-        }
+    'lids: for lid in 0..lids {
+        add_lid(fabric, old, new, lid, graph);
     }
 }
 
-/// The graph of the channels of a fabric: which may be followed by which.
+/// The graph of the channels of a fabric: which may be followed by which, by what goes to any LID.
 pub fn find_followers(
     alloc: Global,
     fabric: &Fabric,
@@ -103,11 +120,10 @@ pub fn find_followers(
 ) -> Result<Graph, OutOfMemory>
     requires same { switch_count fabric.now ≡ old.now.switches }
     requires same_new { switch_count fabric.now ≡ new.now.switches }
-    requires owners { length fabric.now.owners ≤ 64 * old.now.blocks }
-    requires owners_new { length fabric.now.owners ≤ 64 * new.now.blocks }
     ensures { IfOk result (AreSteps fabric.now (MayBeFollowed fabric.now (tables_of old.now) (tables_of new.now))) }
 {
     let mut graph = no_dependencies(alloc, fabric)?;
-    add_lids(fabric, old, new, &mut graph);
+    let lids = lids_of(old, new);
+    add_lids(fabric, old, new, lids, &mut graph);
     Ok(graph)
 }

@@ -1,16 +1,18 @@
 //! The judgement of two tables of a fabric, of which the one is replaced by the other row by row.
 
-ghost use Rattle.std.specs.Prelude.{◌≡◌, ◌<◌, ◌≤◌, ◌*◌, IfOk, length, map};
+ghost use Rattle.std.specs.Prelude.{◌≡◌, ◌<◌, IfOk, map};
+ghost use Rattle.std.specs.Bool.{OnTrue, OnFalse};
 ghost use Rattle.channel_graph.specs.Cycles.{IsLeastCycle};
 ghost use Rattle.ib_cells.specs.Cells.{tables_of};
 ghost use Rattle.ib_net.specs.Fabric.{IsFabric, switch_count};
 ghost use Rattle.ib_routes.specs.Found.{channel_of};
 ghost use Rattle.ib_verdict.specs.Verdict.{channel_cmp, spot_at};
 ghost use Rattle.ib_mixtures.specs.Mixtures.{MayBeFollowed};
-ghost use Rattle.ib_mixtures.specs.Steps.{AreSteps};
-ghost use Rattle.ib_mixtures.specs.Verdict.{CycleIs, IsJudgement, IsLeastTurn, IsVerdict};
+ghost use Rattle.ib_mixtures.specs.Steps.{AreSteps, looped_by};
+ghost use Rattle.ib_mixtures.specs.Verdict.{CycleIs, HasLoop, HasNoLoop, IsJudgement, IsLeastTurn, IsLooped, IsVerdict};
 
 use crate::follow::find_followers;
+use crate::looped::Looped;
 use crate::turn::{Turn, find_turn};
 use an_base::memory::OutOfMemory;
 use channel_graph::graph::Graph;
@@ -46,6 +48,8 @@ pub enum Verdict {
     Cycle {
         /// Its channels, of which each may be followed by the next, and the last by the first.
         channels: Vec<LoopChannel>,
+        /// Which of the two tables have a cycle by them alone.
+        looped: Looped,
     },
 }
 
@@ -62,8 +66,6 @@ pub struct Judgement {
 fn turn_of(fabric: &Fabric, old: &Cells, new: &Cells, channel: Spot, next: Spot) -> Turn
     requires same { switch_count fabric.now ≡ old.now.switches }
     requires same_new { switch_count fabric.now ≡ new.now.switches }
-    requires owners { length fabric.now.owners ≤ 64 * old.now.blocks }
-    requires owners_new { length fabric.now.owners ≤ 64 * new.now.blocks }
     requires fabric { IsFabric fabric.now }
     requires follows { MayBeFollowed fabric.now (tables_of old.now) (tables_of new.now)
         (channel_of channel) (channel_of next) }
@@ -87,8 +89,6 @@ fn with_turns(
 ) -> Result<Vec<LoopChannel>, OutOfMemory>
     requires same { switch_count fabric.now ≡ old.now.switches }
     requires same_new { switch_count fabric.now ≡ new.now.switches }
-    requires owners { length fabric.now.owners ≤ 64 * old.now.blocks }
-    requires owners_new { length fabric.now.owners ≤ 64 * new.now.blocks }
     requires fabric { IsFabric fabric.now }
     requires some { 0 < most }
     requires few { most < 255 }
@@ -106,6 +106,47 @@ fn with_turns(
     Ok(channels)
 }
 
+// Whether tables have a loop by them alone.
+fn has_loop(alloc: Global, fabric: &Fabric, cells: &Cells) -> Result<bool, OutOfMemory>
+    requires same { switch_count fabric.now ≡ cells.now.switches }
+    ensures some { IfOk result (λ has. OnTrue has (HasLoop fabric.now (tables_of cells.now))) }
+    ensures none { IfOk result (λ has. OnFalse has (HasNoLoop fabric.now (tables_of cells.now))) }
+{
+    let graph = find_followers(alloc, fabric, cells, cells)?;
+    match verdict_of(alloc, &graph)? {
+        GraphVerdict::Ranks { ranks: _ } => Ok(false),
+        GraphVerdict::Cycle { nodes: _ } => Ok(true),
+    }
+}
+
+// Which of two tables have one, by whether each has.
+fn looped_by(is_old: bool, is_new: bool) -> Looped
+    ensures { result ≡ looped_by is_old is_new }
+{
+    match (is_old, is_new) {
+        (true, true) => Looped::Both,
+        (true, false) => Looped::Old,
+        (false, true) => Looped::New,
+        (false, false) => Looped::Mixture,
+    }
+}
+
+// Which of two tables have one.
+fn find_looped(
+    alloc: Global,
+    fabric: &Fabric,
+    old: &Cells,
+    new: &Cells,
+) -> Result<Looped, OutOfMemory>
+    requires same { switch_count fabric.now ≡ old.now.switches }
+    requires same_new { switch_count fabric.now ≡ new.now.switches }
+    ensures { IfOk result (IsLooped fabric.now (tables_of old.now) (tables_of new.now)) }
+{
+    let is_old = has_loop(alloc, fabric, old)?;
+    let is_new = has_loop(alloc, fabric, new)?;
+    Ok(looped_by(is_old, is_new))
+}
+
 // The verdict on the graph of the channels that may follow one another.
 fn verdict_on(
     alloc: Global,
@@ -116,8 +157,6 @@ fn verdict_on(
 ) -> Result<Verdict, OutOfMemory>
     requires same { switch_count fabric.now ≡ old.now.switches }
     requires same_new { switch_count fabric.now ≡ new.now.switches }
-    requires owners { length fabric.now.owners ≤ 64 * old.now.blocks }
-    requires owners_new { length fabric.now.owners ≤ 64 * new.now.blocks }
     requires graph { AreSteps fabric.now (MayBeFollowed fabric.now (tables_of old.now) (tables_of new.now)) graph.now }
     ensures { IfOk result (λ verdict. IsVerdict fabric.now (tables_of old.now) (tables_of new.now) verdict) }
 {
@@ -126,7 +165,8 @@ fn verdict_on(
         GraphVerdict::Ranks { ranks } => Ok(Verdict::Ranks { ranks }),
         GraphVerdict::Cycle { nodes } => {
             let channels = with_turns(alloc, fabric, old, new, most, &nodes)?;
-            Ok(Verdict::Cycle { channels })
+            let looped = find_looped(alloc, fabric, old, new)?;
+            Ok(Verdict::Cycle { channels, looped })
         }
     }
 }
@@ -142,8 +182,6 @@ pub fn judge(
 ) -> Result<Judgement, OutOfMemory>
     requires same { switch_count fabric.now ≡ old.now.switches }
     requires same_new { switch_count fabric.now ≡ new.now.switches }
-    requires owners { length fabric.now.owners ≤ 64 * old.now.blocks }
-    requires owners_new { length fabric.now.owners ≤ 64 * new.now.blocks }
     ensures { IfOk result (IsJudgement fabric.now (tables_of old.now) (tables_of new.now)) }
 {
     let graph = find_followers(alloc, fabric, old, new)?;

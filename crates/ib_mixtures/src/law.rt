@@ -1,20 +1,21 @@
 //! What is so of each mixture of two tables. No function here has code.
 
-ghost use Rattle.std.specs.Prelude.{◌≡◌, ◌≢◌, ◌<◌, ◌≤◌, ℕ, []};
+ghost use Rattle.std.specs.Prelude.{◌≢◌, ◌≤◌, ℕ, List, []};
 ghost use Rattle.channel_graph.specs.Cycles.{HasNoCycle};
 ghost use Rattle.ib_cells.specs.Cells.{TablesOf};
 ghost use Rattle.ib_net.specs.declared.node.EndPort.TheVariants as port;
 ghost use Rattle.ib_net.specs.Fabric.{FabricOf};
 ghost use Rattle.ib_routes.specs.declared.traffic.Traffic.{Traffic};
 ghost use Rattle.ib_routes.specs.declared.traffic.Traffic.TheVariants.{All};
-ghost use Rattle.ib_routes.specs.Routes.{Channel, DependsOn, Sends};
+ghost use Rattle.ib_routes.specs.Routes.{Channel, DependsOn, SendsToOwner};
 ghost use Rattle.ib_verdict.specs.Packets.{QueuesOf};
 ghost use Rattle.ib_mixtures.specs.Mixtures.{IsEmptied, IsMixture, MayBeFollowed, MayTakeBoth};
 ghost use Rattle.ib_mixtures.specs.Moves.{DependsWhile};
 ghost use Rattle.ib_mixtures.specs.Packets.{AllStandWhile, ComesFree};
+ghost use Rattle.ib_mixtures.specs.Verdict.{HasRanks};
 
 /// A mixture of two tables makes no dependency that they do not make together. So if no channels that may follow one
-/// another lead round, no mixture has a credit loop, for any traffic. Each of the two tables is a mixture.
+/// another lead round, no mixture has a credit loop, for any traffic, also for LIDs that nobody owns. Each of the two tables is a mixture.
 pub fn no_mixture_has_a_loop()
     ensures depends { (fabric : FabricOf) (old new mixed : TablesOf) (traffic : Traffic) (channel next : Channel)
         → IsMixture old new mixed → DependsOn fabric mixed traffic channel next
@@ -34,15 +35,15 @@ pub fn no_change_has_a_loop()
         → HasNoCycle (MayBeFollowed fabric old new) → HasNoCycle (DependsWhile fabric old new traffic) }
 {}
 
-/// What may be followed is, for the traffic `all`, if the switch of the channel sends to the LID, as it does unless it
-/// owns the LID: some packet takes the one channel and then the other while rows change, and if the channels are out of
+/// What may be followed is, for the traffic `all`, if the switch of the channel sends to the LID, as it does if another
+/// end port owns the LID: some packet takes the one channel and then the other while rows change, and if the channels are out of
 /// two switches, one mixture makes the dependency.
 pub fn what_may_be_followed_is()
     ensures changing { (fabric : FabricOf) (old new : TablesOf) (lid : ℕ) (channel next : Channel)
-        → MayTakeBoth fabric old new lid channel next → Sends fabric All lid (port.Switch channel.switch)
+        → MayTakeBoth fabric old new lid channel next → SendsToOwner fabric All lid (port.Switch channel.switch)
         → DependsWhile fabric old new All channel next }
     ensures at_once { (fabric : FabricOf) (old new : TablesOf) (lid : ℕ) (channel next : Channel)
-        → MayTakeBoth fabric old new lid channel next → Sends fabric All lid (port.Switch channel.switch)
+        → MayTakeBoth fabric old new lid channel next → SendsToOwner fabric All lid (port.Switch channel.switch)
         → channel.switch ≢ next.switch
         → (mixed : TablesOf) × IsMixture old new mixed × DependsOn fabric mixed All channel next }
 {}
@@ -58,15 +59,14 @@ pub fn emptied_rows_add_nothing()
         → HasNoCycle (MayBeFollowed fabric old emptied) }
 {}
 
-/// Some packet can move while rows change. Let numbers fall from each channel to all by which it may be followed, let
-/// each channel have at least one place, let each packet stand in a channel that one of the tables gave for its LID,
-/// and let each switch have looked its next port up in some mixture, each in its own. From each channel that is not
-/// empty, each time to the channel for which its first packet waits, one comes to a channel whose first packet leaves or
-/// has room ahead.
+/// Some packet can move while rows change. Let no channels that may follow one another lead round, as ranks of the
+/// channels show, and let each channel have at least one place. Let each packet stand in a channel that one of the tables
+/// gave for its LID, and let each switch have looked its next port up in some mixture, each in its own. From each channel
+/// that is not empty, each time to the channel for which its first packet waits, one comes to a channel whose first packet
+/// leaves or has room ahead.
 pub fn some_packet_can_move()
-    ensures { (fabric : FabricOf) (old new : TablesOf) (rank : Channel → ℕ) (looked_up : Channel → TablesOf)
-        (room : Channel → ℕ) (queue : QueuesOf) (channel : Channel)
-        → ((one next : Channel) → MayBeFollowed fabric old new one next → rank next < rank one)
+    ensures { (fabric : FabricOf) (old new : TablesOf) (ranks : List ℕ) (looked_up : Channel → TablesOf)
+        (room : Channel → ℕ) (queue : QueuesOf) (channel : Channel) → HasRanks fabric old new ranks
         → ((each : Channel) → IsMixture old new (looked_up each)) → ((each : Channel) → 1 ≤ room each)
         → AllStandWhile fabric old new queue → queue channel ≢ [] → ComesFree fabric looked_up room queue channel }
 {}

@@ -1,6 +1,6 @@
 //! By what a channel may be followed by another one.
 
-ghost use Rattle.std.specs.Prelude.{◌≡◌, ◌<◌, ◌≤◌, ◌*◌, ◌↔◌, ℕ, IfSome, IsTrue, MatchOption, length};
+ghost use Rattle.std.specs.Prelude.{◌≡◌, ◌<◌, ◌↔◌, ℕ, IfSome, IsTrue, MatchOption};
 ghost use Rattle.ib_cells.specs.Cells.{tables_of};
 ghost use Rattle.ib_net.specs.Fabric.{switch_count};
 ghost use Rattle.ib_routes.specs.declared.hop.Hop.TheVariants.{On};
@@ -9,12 +9,11 @@ ghost use Rattle.ib_mixtures.specs.Mixtures.{MayBeFollowed, MayTakeBoth};
 ghost use Rattle.ib_mixtures.specs.Steps.{by_of};
 ghost use Rattle.ib_mixtures.specs.Verdict.{IsLeastTurn, IsTurn};
 
+use crate::look::{hop_for, lids_of};
 use ib_cells::cells::Cells;
 use ib_net::fabric::Fabric;
 use ib_net::node::Spot;
-use ib_routes::hop::{Hop, hop_at};
-use ib_routes::start::is_target;
-use ib_routes::traffic::Traffic;
+use ib_routes::hop::Hop;
 
 /// By which of two tables something is so.
 #[derive(Clone, Copy)]
@@ -84,8 +83,6 @@ fn turn_at(
 ) -> Option<Turn>
     requires same { switch_count fabric.now ≡ old.now.switches }
     requires same_new { switch_count fabric.now ≡ new.now.switches }
-    requires lid { lid < 64 * old.now.blocks }
-    requires lid_new { lid < 64 * new.now.blocks }
     requires channel { channel.switch < switch_count fabric.now }
     requires next { next.switch < switch_count fabric.now }
     ensures turn { MatchOption result
@@ -94,18 +91,15 @@ fn turn_at(
     ensures lid { IfSome result (λ turn. turn.lid ≡ lid) }
 {
     let at = usize::from(lid);
-    if !is_target(fabric, Traffic::All, at) {
-        return None;
-    }
     let from = channel.switch as usize;
     let by = by_of(
-        goes_to(hop_at(fabric, old, from, at), channel.port, next.switch),
-        goes_to(hop_at(fabric, new, from, at), channel.port, next.switch),
+        goes_to(hop_for(fabric, old, from, at), channel.port, next.switch),
+        goes_to(hop_for(fabric, new, from, at), channel.port, next.switch),
     )?;
     let to = next.switch as usize;
     let next_by = by_of(
-        goes_by(hop_at(fabric, old, to, at), next.port),
-        goes_by(hop_at(fabric, new, to, at), next.port),
+        goes_by(hop_for(fabric, old, to, at), next.port),
+        goes_by(hop_for(fabric, new, to, at), next.port),
     )?;
     Some(Turn { lid, by, next_by })
 }
@@ -121,15 +115,13 @@ pub fn find_turn(
 ) -> Option<Turn>
     requires same { switch_count fabric.now ≡ old.now.switches }
     requires same_new { switch_count fabric.now ≡ new.now.switches }
-    requires owners { length fabric.now.owners ≤ 64 * old.now.blocks }
-    requires owners_new { length fabric.now.owners ≤ 64 * new.now.blocks }
     requires channel { channel.switch < switch_count fabric.now }
     requires next { next.switch < switch_count fabric.now }
     ensures { MatchOption result
         (MayBeFollowed fabric.now (tables_of old.now) (tables_of new.now) (channel_of channel) (channel_of next) → ⊥)
         (IsLeastTurn fabric.now (tables_of old.now) (tables_of new.now) (channel_of channel) (channel_of next)) }
 {
-    'lids: for lid in 0..fabric.lids() {
+    'lids: for lid in 0..lids_of(old, new) {
         if let Some(turn) = turn_at(fabric, old, new, lid as u16, channel, next) {
             return Some(turn);
         }

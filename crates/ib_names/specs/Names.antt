@@ -60,18 +60,20 @@ plain_name line =
 unfoldable pub near_name : Part → Option (List ℕ) → List ℕ → Option (List ℕ)
 near_name (part.Switch guid) section line = after (codes "Switch\t") line >>= head_name
 near_name part.Adapter section line = section
-near_name part.Dumped section line = far_parts line >>= λ parts. near_braced parts.0
+near_name (part.Dumped lmc) section line = far_parts line >>= λ parts. near_braced parts.0
 near_name part.Plain section line = plain_name line
 near_name part.Start section line = None
+near_name (part.Lmc lmc) section line = None
 near_name part.Outside section line = None
 near_name part.Ended section line = None
 
 unfoldable pub far_name : Part → List ℕ → Option (List ℕ)
-far_name part.Dumped line = far_parts line >>= λ parts. braced parts.1
+far_name (part.Dumped lmc) line = far_parts line >>= λ parts. braced parts.1
 far_name (part.Switch guid) line = None
 far_name part.Adapter line = None
 far_name part.Plain line = None
 far_name part.Start line = None
+far_name (part.Lmc lmc) line = None
 far_name part.Outside line = None
 far_name part.Ended line = None
 

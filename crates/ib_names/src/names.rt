@@ -133,12 +133,13 @@ fn near_name<'a>(part: Part, section: Option<&'a [u8]>, line: &'a [u8]) -> Optio
             head_name(text)
         }
         Part::Adapter => section,
-        Part::Dumped => {
+        Part::Dumped { lmc: _ } => {
             let (heads, _guids, _numbers) = far_parts(line)?;
             near_braced(heads)
         }
         Part::Plain => plain_name(line),
         Part::Start => None,
+        Part::Lmc { lmc: _ } => None,
         Part::Outside => None,
         Part::Ended => None,
     }
@@ -150,7 +151,7 @@ fn far_name(part: Part, line: &[u8]) -> Option<&[u8]>
     ensures { option_copied result ≡ far_name part line.now }
 {
     match part {
-        Part::Dumped => {
+        Part::Dumped { lmc: _ } => {
             let (_heads, guids, _numbers) = far_parts(line)?;
             braced(guids)
         }
@@ -158,6 +159,7 @@ fn far_name(part: Part, line: &[u8]) -> Option<&[u8]>
         Part::Adapter => None,
         Part::Plain => None,
         Part::Start => None,
+        Part::Lmc { lmc: _ } => None,
         Part::Outside => None,
         Part::Ended => None,
     }

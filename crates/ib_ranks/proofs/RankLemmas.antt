@@ -9,7 +9,7 @@ use Rattle.ib_words.specs.declared.ranks_cause.RanksCause.{RanksCause}
 use Rattle.ib_words.specs.declared.ranks_cause.RanksCause.TheVariants.{LineTooLong, NoHead}
 use Rattle.text_lines.proofs.ChainLaws.{LeadsBy-once, end_or_fault, no_fault_of, one_fault_of}
 use Rattle.ib_ranks.specs.RankLines.{said_by, said_by_four, said_by_two, said_in}
-use Rattle.ib_ranks.specs.Ranks.{AddsTo, HasBegun, IsFaultyAfter, IsRanksFault, IsRanksText, Step, Told, none_told, told_by, told_with}
+use Rattle.ib_ranks.specs.Ranks.{AddsTo, HasBegun, IsFaultyAfter, IsRanksFault, IsRanksText, Step, Told, none_told, after_said, told_with}
 use Rattle.ib_ranks.specs.declared.line.RankLine.{RankLine}
 use Rattle.text_lines.specs.Stops.{IsStep}
 use Rattle.text_lines.specs.declared.stop.Stop.{Stop}
@@ -45,19 +45,19 @@ said_long line long =
 
 module _ (fabric : FabricOf) (told : Told) (line : List ℕ) where
   pub faulty_long : 200 < length line → IsFaultyAfter fabric told line LineTooLong
-  faulty_long long = ap (told_by fabric told) (said_long line long)
+  faulty_long long = ap (after_said fabric told) (said_long line long)
 
   -- what is told after its words
-  pub told_words : (words : List (List ℕ)) → length line ≤ 200 → words ≡ words_of line → told_by fabric told (said_in line) ≡ told_by fabric told (said_by words)
-  told_words words short are = ap (told_by fabric told) (said_words line words short are)
+  pub told_words : (words : List (List ℕ)) → length line ≤ 200 → words ≡ words_of line → after_said fabric told (said_in line) ≡ after_said fabric told (said_by words)
+  told_words words short are = ap (after_said fabric told) (said_words line words short are)
 
   pub step_words : {Done : Type 0} (words : List (List ℕ)) (said : RankLine) (after : Told) (r : Result Done (Stop RanksCause)) → length line ≤ 200 → words ≡ words_of line → said_by words ≡ Ok said → IsStep r (told_with fabric told said ≡ Ok after) (λ cause. told_with fabric told said ≡ Err cause) → IsStep r (AddsTo fabric told line after) (IsFaultyAfter fabric told line)
-  step_words words said after (Ok done) short are says step = told_words words short are ∙ ap (told_by fabric told) says ∙ step
-  step_words words said after (Err (Fault cause)) short are says step = told_words words short are ∙ ap (told_by fabric told) says ∙ step
+  step_words words said after (Ok done) short are says step = told_words words short are ∙ ap (after_said fabric told) says ∙ step
+  step_words words said after (Err (Fault cause)) short are says step = told_words words short are ∙ ap (after_said fabric told) says ∙ step
   step_words words said after (Err OutOfMemory) short are says step = tt
 
   pub faulty_words : (words : List (List ℕ)) (cause : RanksCause) → length line ≤ 200 → words ≡ words_of line → said_by words ≡ Err cause → IsFaultyAfter fabric told line cause
-  faulty_words words cause short are says = told_words words short are ∙ ap (told_by fabric told) says
+  faulty_words words cause short are says = told_words words short are ∙ ap (after_said fabric told) says
 
 module _ (fabric : FabricOf) where
   once : (d : Told) (l : List ℕ) (e f : Told) → AddsTo fabric d l e → AddsTo fabric d l f → e ≡ f
@@ -89,7 +89,7 @@ module _ (fabric : FabricOf) where
   text_or bytes ranks line cause is fault = no_fault_of (none_told fabric) (AddsTo fabric) (IsFaultyAfter fabric) HasBegun NoHead once not_both one_cause bytes is.last line cause is.good is.begun fault
 
   pub either : (bytes : List ℕ) → ((ranks : List ℕ) × IsRanksText fabric bytes ranks) ⊎ ((line : ℕ) × (cause : RanksCause) × IsRanksFault fabric bytes line cause)
-  either bytes = elim (end_or_fault (none_told fabric) (AddsTo fabric) (IsFaultyAfter fabric) HasBegun NoHead (λ d l. good_or_faulty (told_by fabric d (said_in l))) (λ d. has_begun_or d.begun) bytes) [
+  either bytes = elim (end_or_fault (none_told fabric) (AddsTo fabric) (IsFaultyAfter fabric) HasBegun NoHead (λ d l. good_or_faulty (after_said fabric d (said_in l))) (λ d. has_begun_or d.begun) bytes) [
     | inl ends ↦ inl (map (λ rank. unwrap_or rank 0) ends.0.ranks, record { last = ends.0; good = ends.1; begun = ends.2; says = refl })
     | inr fault ↦ inr fault
   ]

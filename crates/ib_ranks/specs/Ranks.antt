@@ -60,15 +60,15 @@ told_with fabric told Head = head_told told
 told_with fabric told (Rank guid port rank) =
     if told.begun then switch_told fabric told port rank (switch_with fabric guid) else Err OutOfPlace
 
-abbrev pub told_by : FabricOf → Told → Result RankLine RanksCause → Step
-told_by fabric told said = and_then said (told_with fabric told)
+abbrev pub after_said : FabricOf → Told → Result RankLine RanksCause → Step
+after_said fabric told said = and_then said (told_with fabric told)
 
 -- a line is good after what was told, and leads to more; or it is faulty, first by this cause
 abbrev pub AddsTo : FabricOf → Told → List ℕ → Told → Type 0
-AddsTo fabric told line after = told_by fabric told (said_in line) ≡ Ok after
+AddsTo fabric told line after = after_said fabric told (said_in line) ≡ Ok after
 
 abbrev pub IsFaultyAfter : FabricOf → Told → List ℕ → RanksCause → Type 0
-IsFaultyAfter fabric told line cause = told_by fabric told (said_in line) ≡ Err cause
+IsFaultyAfter fabric told line cause = after_said fabric told (said_in line) ≡ Err cause
 
 abbrev pub HasBegun : Told → Type 0
 HasBegun told = told.begun ≡ true

@@ -26,8 +26,6 @@ pub struct Changes {
     // For each target from how many switches no route was found, and for all together.
     losses: Vec<u32>,
     lost: u32,
-    // For how many targets rows are set.
-    lids: u32,
 }
 
 impl Changes {
@@ -38,7 +36,6 @@ impl Changes {
             ends: Vec::new(alloc),
             losses: Vec::new(alloc),
             lost: 0,
-            lids: 0,
         }
     }
 
@@ -48,9 +45,6 @@ impl Changes {
         self.ends.push(self.rows.len())?;
         self.losses.push(lost)?;
         self.lost = self.lost.wrapping_add(lost);
-        if !rows.is_empty() {
-            self.lids = self.lids.wrapping_add(1);
-        }
         Ok(())
     }
 
@@ -73,11 +67,6 @@ impl Changes {
     pub fn concerns(&self, place: usize) -> bool {
         let lost = self.losses.get(place).copied().unwrap_or(0);
         lost > 0 || !self.rows_for(place).is_empty()
-    }
-
-    /// For how many targets rows are set.
-    pub fn lids(&self) -> u32 {
-        self.lids
     }
 
     /// Whether they are better than others: fewer routes are lost, or as many and fewer rows are set.

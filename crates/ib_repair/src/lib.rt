@@ -2,9 +2,9 @@
 //! channels.
 //!
 //! It stands on `an_base`, `ib_net`, `ib_cells`, `ib_routes`, `ib_channels`, `ib_orders`, `ib_sorting`, `ib_rising` and
-//! `ib_laying`. Its contract: `repair` answers tables of as many switches as the fabric and for all its LIDs, and takes no
-//! port away. That these are good, and that few rows are set, is not proved: who takes them has them judged. `keep`
-//! answers such tables in which no row is set.
+//! `ib_laying`. Its contract: `repair` answers tables with as many cells as the given ones, and takes no port away.
+//! Each row for a LID that nobody owns is as it was. That these tables are good, and that few rows are set, is not
+//! proved: who takes them has them judged. `keep` answers the same tables again.
 #![tactic(auto)]
 
 mod changes;

@@ -88,11 +88,11 @@ impl Mending {
     }
 
     // Chooses the exits of the switches of sources. Answers how many there are that have no route.
-    fn begin(&mut self, task: Task<'_>, order: &Order, target: u32) -> u32 {
+    fn begin(&mut self, task: Task<'_>, order: &Order, target: Target) -> u32 {
         self.made.clear();
         let mut lost = 0u32;
         'sources: for switch in 0..task.channels.switches() {
-            if task.sends_from(switch) && switch != target {
+            if task.sends_from(switch, target) && switch != target.switch {
                 let exit = self.choose(task, order, switch, 0);
                 self.made.put(switch, exit);
                 if exit.is_none() {
@@ -117,11 +117,11 @@ impl Mending {
 
     // Chooses the exits of all switches to which routes lead, from the first channel of the order to the last: an exit
     // is later than all that lead to its switch.
-    fn lay(&mut self, task: Task<'_>, order: &Order, target: u32) -> u32 {
+    fn lay(&mut self, task: Task<'_>, order: &Order, target: Target) -> u32 {
         let lost = self.begin(task, order, target);
         'channels: for channel in order.sequence() {
             let (from, to) = (task.channels.from(*channel), task.channels.to(*channel));
-            if to != target && self.made.exit(from) == Some(*channel) {
+            if to != target.switch && self.made.exit(from) == Some(*channel) {
                 self.go_on(task, order, to, order.place(*channel));
             }
         }
@@ -147,7 +147,7 @@ impl Mending {
     // Finds the rows that are to be set for the exits that were made.
     fn find_rows(&mut self, task: Task<'_>, target: Target) -> Result<(), OutOfMemory> {
         self.last.clear();
-        self.made.count(task);
+        self.made.count(task, target);
         'switches: for switch in 0..task.channels.switches() {
             self.push_row(task, target, switch)?;
         }
@@ -175,7 +175,7 @@ impl Mending {
         'passes: for pass in 0..PASSES {
             effort.spend(task.channels.count());
             self.find_costs(task, order, target.switch);
-            lost = self.lay(task, order, target.switch);
+            lost = self.lay(task, order, target);
             self.find_rows(task, target)?;
             if pass > 0 && self.last.len() >= self.rows.len() {
                 break;
@@ -199,7 +199,7 @@ impl Mending {
         effort.spend(task.channels.switches());
         self.rows.clear();
         self.given.read(task, target);
-        self.given.count(task);
+        self.given.count(task, target);
         let lost = if self.given.rise(task, order, target.switch) {
             0
         } else {

@@ -1,9 +1,9 @@
 //! Tables repaired along the best of several orders.
 
 ghost use Rattle.std.specs.Prelude.{◌≡◌, ◌≤◌, ◌*◌, length, IfOk, IfSome};
-ghost use Rattle.ib_net.specs.Fabric.{IsFabric, switch_count};
+ghost use Rattle.ib_net.specs.Fabric.{switch_count};
 ghost use Rattle.ib_cells.specs.Cells.{tables_of};
-ghost use Rattle.ib_repair.specs.Repaired.{AreAlike, AreRepairedOf};
+ghost use Rattle.ib_repair.specs.Repaired.{AreRepairedOf};
 
 use crate::changes::Changes;
 use crate::figures::measure;
@@ -43,8 +43,6 @@ const STEPS: u64 = 1 << 26;
 pub struct Repaired {
     /// The tables.
     pub cells: Cells,
-    /// For how many LIDs rows were set.
-    pub lids: u32,
     /// How good the given tables were.
     pub before: Measures,
     /// How good these are.
@@ -372,12 +370,12 @@ fn repaired_by(
 ) -> Result<Repaired, OutOfMemory>
     requires switches { cells.now.switches ≡ switch_count fabric.now }
     requires lids { length fabric.now.owners ≤ 64 * cells.now.blocks }
+    requires low { 64 * cells.now.blocks ≤ 0xC000 }
     ensures { IfOk result (λ made. AreRepairedOf fabric.now cells.now made.cells) }
 {
     let before = measure(alloc, task, None)?;
     let after = measure(alloc, task, Some(changes))?;
     Ok(Repaired {
-        lids: changes.lids(),
         before,
         after,
         cells: write_tables(alloc, fabric, cells, changes.rows())?,
@@ -393,6 +391,7 @@ fn repair_task(
 ) -> Result<Option<Repaired>, OutOfMemory>
     requires switches { cells.now.switches ≡ switch_count fabric.now }
     requires lids { length fabric.now.owners ≤ 64 * cells.now.blocks }
+    requires low { 64 * cells.now.blocks ≤ 0xC000 }
     ensures { IfOk result (λ found. IfSome found (λ made. AreRepairedOf fabric.now cells.now made.cells)) }
 {
     match find_changes(alloc, task)? {
@@ -402,8 +401,8 @@ fn repair_task(
 }
 
 /// Tables in which few rows are set otherwise than in given ones, with all ways for the traffic; none if no
-/// such tables are found, as in a fabric in parts. The same tables are repaired alike each time. The error is
-/// want of memory alone.
+/// such tables are found, as in a fabric in parts. Rows are set for LIDs that have an owner; each row for another
+/// stays. The same tables are repaired alike each time. The error is out of memory alone.
 pub fn repair(
     alloc: Global,
     fabric: &Fabric,
@@ -412,31 +411,28 @@ pub fn repair(
 ) -> Result<Option<Repaired>, OutOfMemory>
     requires switches { cells.now.switches ≡ switch_count fabric.now }
     requires lids { length fabric.now.owners ≤ 64 * cells.now.blocks }
+    requires low { 64 * cells.now.blocks ≤ 0xC000 }
     ensures { IfOk result (λ found. IfSome found (λ made. AreRepairedOf fabric.now cells.now made.cells)) }
 {
     let parts = Parts::of(alloc, fabric)?;
     repair_task(alloc, fabric, cells, parts.task(cells, traffic))
 }
 
-/// Given tables in which no row is set: each port for a LID that has an owner, and no other. The error is want of
-/// memory alone.
+/// Given tables in which no row is set. The error is out of memory alone.
 pub fn keep(
     alloc: Global,
     fabric: &Fabric,
     cells: &Cells,
     traffic: Traffic,
 ) -> Result<Repaired, OutOfMemory>
-    requires switches { cells.now.switches ≡ switch_count fabric.now }
-    requires lids { length fabric.now.owners ≤ 64 * cells.now.blocks }
+    requires { cells.now.switches ≡ switch_count fabric.now }
     ensures shape { IfOk result (λ made. AreRepairedOf fabric.now cells.now made.cells) }
-    ensures alike { IfOk result (λ made. AreAlike fabric.now (tables_of cells.now) (tables_of made.cells)) }
-    ensures fabric { IfOk result (λ _. IsFabric fabric.now) }
+    ensures same { IfOk result (λ made. tables_of made.cells ≡ tables_of cells.now) }
 {
     let parts = Parts::of(alloc, fabric)?;
     let measures = measure(alloc, parts.task(cells, traffic), None)?;
     Ok(Repaired {
         cells: copy_tables(alloc, fabric, cells)?,
-        lids: 0,
         before: measures,
         after: measures,
     })

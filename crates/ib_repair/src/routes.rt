@@ -95,12 +95,12 @@ impl Routes {
         }
     }
 
-    /// Counts from how many switches of sources routes pass each switch.
-    pub fn count(&mut self, task: Task<'_>) {
+    /// Counts from how many switches of sources routes to a target pass each switch.
+    pub fn count(&mut self, task: Task<'_>, target: Target) {
         self.flows.reset();
         self.last.reset();
         'sources: for source in 0..task.channels.switches() {
-            if task.sends_from(source) {
+            if task.sends_from(source, target) {
                 self.follow(task, source);
             }
         }

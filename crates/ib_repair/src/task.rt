@@ -6,7 +6,7 @@ use ib_channels::channels::{Channel, Channels};
 use ib_channels::demand::{Demand, Target};
 use ib_channels::table::Table;
 use ib_net::fabric::Fabric;
-use ib_rising::plan::{sends_from, sends_to};
+use ib_rising::plan::{is_from_all, sends_to};
 use ib_routes::traffic::Traffic;
 use std::alloc::Global;
 
@@ -92,9 +92,9 @@ pub struct Task<'a> {
 }
 
 impl Task<'_> {
-    /// Whether routes of the traffic begin at a switch.
-    pub fn sends_from(self, switch: u32) -> bool {
-        sends_from(self.traffic, self.demand, switch)
+    /// Whether routes of the traffic to a target begin at a switch.
+    pub fn sends_from(self, switch: u32, target: Target) -> bool {
+        is_from_all(self.traffic, target) || self.demand.hosts(switch) > 0
     }
 
     /// Whether routes of the traffic lead to a target.

@@ -6,6 +6,7 @@ use crate::task::Task;
 use an_base::memory::OutOfMemory;
 use ib_channels::amount::Change;
 use ib_channels::channels::Channel;
+use ib_channels::demand::Target;
 use ib_channels::table::Table;
 use std::alloc::Global;
 
@@ -29,8 +30,14 @@ fn change_turn(
 }
 
 // Changes the weights of the turns of the routes to a target: each by one for each switch that makes it.
-fn change_turns(task: Task<'_>, routes: &mut Routes, change: Change, weights: &mut Table<u32>) {
-    routes.count(task);
+fn change_turns(
+    task: Task<'_>,
+    target: Target,
+    routes: &mut Routes,
+    change: Change,
+    weights: &mut Table<u32>,
+) {
+    routes.count(task, target);
     'switches: for switch in 0..task.channels.switches() {
         if routes.flow(switch) > 0 {
             change_turn(task, routes, switch, change, weights);
@@ -46,7 +53,7 @@ pub fn weigh(alloc: Global, task: Task<'_>) -> Result<Table<u32>, OutOfMemory> {
     'targets: for target in task.demand.targets() {
         if task.sends_to(*target) {
             routes.read(task, *target);
-            change_turns(task, &mut routes, Change::Come, &mut weights);
+            change_turns(task, *target, &mut routes, Change::Come, &mut weights);
         }
     }
     Ok(weights)
@@ -73,10 +80,10 @@ pub fn reweigh(
     'targets: for (place, target) in task.demand.targets().iter().enumerate() {
         if task.sends_to(*target) && changes.concerns(place) {
             routes.read(task, *target);
-            change_turns(task, &mut routes, Change::Go, &mut weights);
+            change_turns(task, *target, &mut routes, Change::Go, &mut weights);
             changes.put_exits(task, place, routes.exits_mut());
             routes.put(target.switch, None);
-            change_turns(task, &mut routes, Change::Come, &mut weights);
+            change_turns(task, *target, &mut routes, Change::Come, &mut weights);
         }
     }
     Ok(weights)

@@ -115,9 +115,11 @@ impl Wishing {
     }
 
     // Whether there is a route from each switch of sources.
-    fn reaches_all(&self, task: Task<'_>) -> bool {
+    fn reaches_all(&self, task: Task<'_>, target: Target) -> bool {
         let mut switches = 0..task.channels.switches();
-        switches.all(|switch| !task.sends_from(switch) || self.starts.get(switch).cost < NO_ROUTE)
+        switches.all(|switch| {
+            !task.sends_from(switch, target) || self.starts.get(switch).cost < NO_ROUTE
+        })
     }
 
     // Finds the cheapest routes with at least one turn that may fall.
@@ -126,15 +128,15 @@ impl Wishing {
         task: Task<'_>,
         order: &Order,
         refused: &Table<bool>,
-        target: u32,
+        target: Target,
         effort: &mut Effort,
     ) {
         self.costs_before.reset();
         self.least_before.reset();
         'layers: for layer in 0..LAYERS {
             effort.spend(task.channels.count());
-            self.find_costs(task, order, refused, target);
-            if layer > 0 && self.reaches_all(task) {
+            self.find_costs(task, order, refused, target.switch);
+            if layer > 0 && self.reaches_all(task, target) {
                 break;
             }
             self.keep(task);
@@ -168,10 +170,10 @@ impl Wishing {
         effort: &mut Effort,
     ) {
         self.given.read(task, target);
-        self.given.count(task);
-        self.find(task, order, refused, target.switch, effort);
+        self.given.count(task, target);
+        self.find(task, order, refused, target, effort);
         'sources: for switch in 0..task.channels.switches() {
-            if task.sends_from(switch) && switch != target.switch {
+            if task.sends_from(switch, target) && switch != target.switch {
                 self.note(task, order, switch, wishes);
             }
         }

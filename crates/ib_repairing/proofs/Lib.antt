@@ -1,3 +1,6 @@
 mod ReportLemmas
-mod AlikeLemmas
+mod KnownLemmas
 mod SetLemmas
+mod SameLemmas
+mod LidLemmas
+mod JudgedLemmas

@@ -1,4 +1,5 @@
 pub mod Repairs
 pub mod Reports
-pub mod Given
 pub mod SetRows
+pub mod Flags
+pub mod Given

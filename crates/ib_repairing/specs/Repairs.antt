@@ -1,6 +1,6 @@
 -- Tables with rows set otherwise than in given ones.
 
-use Rattle.std.specs.Prelude.{◌==◌, ◌*◌, ℕ, Bool, true, not, List, [], ◌∷◌, Option, Some, None, count_by, if◌then◌else◌, is_some, length}
+use Rattle.std.specs.Prelude.{◌≡◌, ◌==◌, ◌*◌, ℕ, Bool, true, not, List, [], ◌∷◌, Option, Some, None, Contains, count_by, if◌then◌else◌, is_some, length}
 use Rattle.std.specs.List.{flat_map, range_with_len}
 use Rattle.ib_net.specs.declared.node.EndPort.TheVariants.{Switch}
 use Rattle.ib_net.specs.Fabric.{FabricOf, guid_of, switch_count}
@@ -35,6 +35,10 @@ rows_for fabric given made switch =
 
 abbrev pub rows_set : FabricOf → (given made : TablesOf) → List SetRow
 rows_set fabric given made = flat_map (rows_for fabric given made) (range_with_len 0 (switch_count fabric))
+
+-- rows are set for a LID
+abbrev pub IsSetFor : List SetRow → ℕ → Type 0
+IsSetFor rows lid = (row : SetRow) × Contains rows row × (row.lid ≡ lid)
 
 -- how many cells tables have: one for each switch and each LID that has an owner
 abbrev pub cell_count : FabricOf → ℕ

@@ -1,19 +1,18 @@
--- Tables in which rows are set. Only laws cite this.
+-- Tables in which rows are set.
 
-use Rattle.std.specs.Prelude.{◌==◌, ◌&&◌, ℕ, Bool, List, [], ◌∷◌, Some, if◌then◌else◌}
-use Rattle.ib_net.specs.declared.node.EndPort.TheVariants.{Switch}
-use Rattle.ib_net.specs.Fabric.{FabricOf, guid_of}
-use Rattle.ib_cells.specs.Cells.{TablesOf}
+use Rattle.std.specs.Prelude.{ℕ, List, [], ◌∷◌, Option, Some, None}
+use Rattle.ib_net.specs.Fabric.{FabricOf, switch_with}
+use Rattle.ib_cells.specs.Cells.{TablesOf, with_port}
 use Rattle.ib_repairing.specs.declared.rows.SetRow.{SetRow}
 
--- a row is of this switch, by its GUID, and for this LID
-abbrev pub is_row_of : FabricOf → (switch lid : ℕ) → SetRow → Bool
-is_row_of fabric switch lid row = guid_of fabric (Switch switch) == row.guid && lid == row.lid
+-- tables in which a switch has a port for a LID, if there is the switch, and all else is as it was
+abbrev pub with_port_of : TablesOf → (switch : Option ℕ) → (lid port : ℕ) → TablesOf
+with_port_of tables None lid port = tables
+with_port_of tables (Some switch) lid port = with_port tables switch lid port
 
--- tables in which a row is set: its switch has its port for its LID, and all else is as it was
+-- tables in which a row is set: the switch with its GUID has its port for its LID
 abbrev pub with_row : FabricOf → TablesOf → SetRow → TablesOf
-with_row fabric tables row switch lid =
-    if is_row_of fabric switch lid row then Some row.port else tables switch lid
+with_row fabric tables row = with_port_of tables (switch_with fabric row.guid) row.lid row.port
 
 -- tables in which rows are set, one after another, and no others
 abbrev pub with_rows : FabricOf → TablesOf → List SetRow → TablesOf

@@ -1,29 +1,25 @@
 //! The commands `repair` and `repaired`.
 
 ghost use Rattle.std.specs.Prelude.{◌≡◌, ℕ, List, IfOk};
-ghost use Rattle.ib_cells.specs.Cells.{tables_of};
-ghost use Rattle.ib_net.specs.Fabric.{FabricOf};
 ghost use Rattle.ib_tables.specs.Reads.{HasCells};
 ghost use Rattle.ib_answering.specs.Answer.{IsEnding};
-ghost use Rattle.ib_laying.specs.Made.{AreTablesFor};
-ghost use Rattle.ib_repair.specs.Repaired.{AreRepairedOf};
-ghost use Rattle.ib_repairing.specs.Repairs.{Pass, cell_count};
-ghost use Rattle.ib_repairing.specs.Given.{AreRowsTold, AreTablesOrNone, IsNoneTold, gives_repair, gives_repaired};
+ghost use Rattle.ib_repairing.specs.Repairs.{cell_count};
+ghost use Rattle.ib_repairing.specs.Given.{AreRowsTold, IsNoneTold, WereMadeOf, gives_repair, gives_repaired};
 
 use crate::repaired::find_repaired;
 use crate::report::{Report, print_none, print_report};
-use crate::rows::rows_set;
+use crate::rows::{count_lids, rows_set};
 use an_base::memory::OutOfMemory;
 use an_base::text::Word;
 use ib_answering::command::{Command, Given};
 use ib_answering::input::Topology;
 use ib_answering::status::Status;
-use ib_cells::cells::Cells;
 use ib_commands::words::word_of;
 use ib_net::fabric::Fabric;
 use ib_repair::repair::Repaired;
 use ib_routes::traffic::Traffic;
 use ib_routing::apart::find_apart;
+use ib_routing::measured::measured;
 use ib_tables::reader::Tables;
 use ib_tables_text::printer::print;
 use std::alloc::Global;
@@ -63,18 +59,18 @@ fn given_rows(
     made: &Repaired,
 ) -> Result<Given, OutOfMemory>
     requires cells { HasCells fabric.now tables.now }
-    requires shape { AreRepairedOf fabric.now tables.now.cells made.now.cells }
-    requires pass { Pass traffic fabric.now (tables_of made.now.cells) }
+    requires made { WereMadeOf traffic fabric.now tables.now.cells made.now.cells }
     ensures given { IfOk result (λ given. AreRowsTold traffic fabric.now tables.now given.status given.text.items) }
     ensures ends { IfOk result (λ given. IsEnding given.status) }
 {
+    let rows = rows_set(alloc, fabric, &tables.cells, &made.cells)?;
     let report = Report {
         traffic: Word::of(alloc, word_of(traffic).as_bytes())?,
         cells: count_cells(fabric),
-        lids: made.lids,
-        before: made.before,
-        after: made.after,
-        rows: rows_set(alloc, fabric, &tables.cells, &made.cells)?,
+        lids: count_lids(alloc, &rows)?,
+        before: measured(alloc, fabric, &tables.cells, made.before)?,
+        after: measured(alloc, fabric, &made.cells, made.after)?,
+        rows,
     };
     Ok(Given {
         status: Status::Ok,
@@ -122,7 +118,7 @@ impl Command for RepairedTables {
         match find_repaired(alloc, &topology.fabric, &tables.cells, self.traffic)? {
             Ok(made) => Ok(Given {
                 status: Status::Ok,
-                text: print_tables(alloc, &topology.fabric, self.traffic, &made.cells)?,
+                text: print(alloc, &topology.fabric, &made.cells)?,
             }),
             Err(status) => Ok(Given {
                 status,
@@ -130,20 +126,4 @@ impl Command for RepairedTables {
             }),
         }
     }
-}
-
-// The text of tables. A fabric without switches has none.
-fn print_tables(
-    alloc: Global,
-    fabric: &Fabric,
-    traffic: Traffic,
-    cells: &Cells,
-) -> Result<Vec<u8>, OutOfMemory>
-    requires { AreTablesFor fabric.now cells.now }
-    ensures { IfOk result (λ text. AreTablesOrNone traffic fabric.now (tables_of cells.now) text.items) }
-{
-    if fabric.switches() == 0 {
-        return tell_none(alloc, fabric, traffic);
-    }
-    print(alloc, fabric, cells)
 }

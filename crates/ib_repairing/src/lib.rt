@@ -2,9 +2,9 @@
 //! which they are.
 //!
 //! It stands on `ib_repair`, which finds the rows, on the verdict, and on the text of tables. Its one contract: what each
-//! command gives for the text of a topology, its fabric and tables. With status 0 rows or tables are told, and the given
-//! tables pass once the rows are set: there is no credit loop, and each route of the traffic arrives. That few rows are
-//! set is not claimed.
+//! command gives for the text of a topology, its fabric and tables. With status 0 rows are told, or the given tables with
+//! such rows set, and these pass: there is no credit loop, and each route of the traffic arrives. That few rows are set
+//! is not claimed, nor that two calls find the same rows.
 #![tactic(auto)]
 
 pub mod commands;

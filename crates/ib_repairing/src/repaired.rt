@@ -6,7 +6,9 @@ ghost use Rattle.ib_net.specs.Fabric.{switch_count};
 ghost use Rattle.ib_answering.specs.declared.status.Status.TheVariants as ended;
 ghost use Rattle.ib_commands.specs.Judged.{IsEndOf};
 ghost use Rattle.ib_repair.specs.Repaired.{AreRepairedOf};
-ghost use Rattle.ib_repairing.specs.Repairs.{Pass};
+ghost use Rattle.ib_repairing.specs.Repairs.{rows_set};
+ghost use Rattle.ib_repairing.specs.SetRows.{with_rows};
+ghost use Rattle.ib_repairing.specs.Given.{WereMadeOf};
 
 use an_base::memory::OutOfMemory;
 use ib_answering::status::Status;
@@ -19,7 +21,7 @@ use ib_verdict::judge::judge;
 use std::alloc::Global;
 
 /// Given tables with rows set, or with none if they pass and no others were found, which pass for a traffic. If none
-/// were found, the inner error is the status with which the given ones end, which do not pass. The outer error is want of
+/// were found, the inner error is the status with which the given ones end, which do not pass. The outer error is out of
 /// memory alone.
 pub fn find_repaired(
     alloc: Global,
@@ -29,8 +31,8 @@ pub fn find_repaired(
 ) -> Result<Result<Repaired, Status>, OutOfMemory>
     requires switches { cells.now.switches ≡ switch_count fabric.now }
     requires lids { length fabric.now.owners ≤ 64 * cells.now.blocks }
-    ensures shape { IfOk result (λ found. IfOk found (λ made. AreRepairedOf fabric.now cells.now made.cells)) }
-    ensures pass { IfOk result (λ found. IfOk found (λ made. Pass traffic fabric.now (tables_of made.cells))) }
+    requires low { 64 * cells.now.blocks ≤ 0xC000 }
+    ensures made { IfOk result (λ found. IfOk found (λ made. WereMadeOf traffic fabric.now cells.now made.cells)) }
     ensures ends { IfOk result (λ found. IfErr found (IsEndOf fabric.now (tables_of cells.now) traffic)) }
     ensures fails { IfOk result (λ found. IfErr found (λ status. status ≢ ended.Ok)) }
 {
@@ -38,7 +40,11 @@ pub fn find_repaired(
         return Ok(Ok(made));
     }
     match end_of(alloc, fabric, cells, traffic)? {
-        Status::Ok => Ok(Ok(keep(alloc, fabric, cells, traffic)?)),
+        Status::Ok => {
+            let made = keep(alloc, fabric, cells, traffic)?;
+            see_set(fabric, cells, &made.cells);
+            Ok(Ok(made))
+        }
         status => Ok(Err(status)),
     }
 }
@@ -52,16 +58,29 @@ fn find_better(
 ) -> Result<Option<Repaired>, OutOfMemory>
     requires switches { cells.now.switches ≡ switch_count fabric.now }
     requires lids { length fabric.now.owners ≤ 64 * cells.now.blocks }
-    ensures shape { IfOk result (λ found. IfSome found (λ made. AreRepairedOf fabric.now cells.now made.cells)) }
-    ensures pass { IfOk result (λ found. IfSome found (λ made. Pass traffic fabric.now (tables_of made.cells))) }
+    requires low { 64 * cells.now.blocks ≤ 0xC000 }
+    ensures { IfOk result (λ found. IfSome found (λ made. WereMadeOf traffic fabric.now cells.now made.cells)) }
 {
     let Some(made) = repair(alloc, fabric, cells, traffic)? else {
         return Ok(None);
     };
     match end_of(alloc, fabric, &made.cells, traffic)? {
-        Status::Ok => Ok(Some(made)),
+        Status::Ok => {
+            see_set(fabric, cells, &made.cells);
+            Ok(Some(made))
+        }
         _ => Ok(None),
     }
+}
+
+// That given tables, with the rows set in which those that were made differ, are these. Nothing is done.
+fn see_set(fabric: &Fabric, given: &Cells, made: &Cells)
+    requires switches { given.now.switches ≡ switch_count fabric.now }
+    requires shape { AreRepairedOf fabric.now given.now made.now }
+    ensures { with_rows fabric.now (tables_of given.now)
+        (rows_set fabric.now (tables_of given.now) (tables_of made.now)) ≡ tables_of made.now }
+{
+    let _switches = fabric.switches();
 }
 
 // The status with which tables end.

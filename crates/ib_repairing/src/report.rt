@@ -22,7 +22,7 @@ pub struct Report {
     /// How many cells the tables have: one for each switch and each LID that has an owner.
     pub cells: u64,
     /// For how many LIDs rows are set.
-    pub lids: u32,
+    pub lids: u64,
     /// How good the given tables are.
     pub before: Measures,
     /// How good they are once the rows are set.
@@ -86,7 +86,7 @@ fn push_counts(alloc: Global, text: &mut Vec<u8>, report: &Report) -> Result<(),
 {
     let rows = decimal(alloc, report.rows.len() as u64)?;
     let cells = decimal(alloc, report.cells)?;
-    let lids = decimal(alloc, u64::from(report.lids))?;
+    let lids = decimal(alloc, report.lids)?;
     push_line(text, &[b"rows", &rows, b"cells", &cells, b"lids", &lids])
 }
 

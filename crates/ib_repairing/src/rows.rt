@@ -1,11 +1,14 @@
 //! The rows in which tables differ from given ones.
 
-ghost use Rattle.std.specs.Prelude.{◌≡◌, ◌<◌, ◌≤◌, ◌*◌, ◌++◌, length, IfOk, OnOk};
+ghost use Rattle.std.specs.Prelude.{◌≡◌, ◌<◌, ◌≤◌, ◌+◌, ◌*◌, ◌^◌, ◌++◌, ◌∷◌, [], ℕ, List, false, length, replicate, IfOk, OnOk};
 ghost use Rattle.ib_cells.specs.Cells.{tables_of};
 ghost use Rattle.ib_net.specs.declared.node.EndPort.TheVariants.{Switch};
 ghost use Rattle.ib_net.specs.Fabric.{IsFabric, guid_of, switch_count};
-ghost use Rattle.ib_laying.specs.Made.{AreTablesFor};
-ghost use Rattle.ib_repairing.specs.Repairs.{differs, row_at, rows_for, rows_set};
+ghost use Rattle.ib_repair.specs.Repaired.{AreRepairedOf};
+ghost use Rattle.ib_routes.specs.Counting.{IsCountOf};
+ghost use Rattle.ib_repairing.specs.declared.rows.SetRow.{SetRow};
+ghost use Rattle.ib_repairing.specs.Flags.{AreFlagged};
+ghost use Rattle.ib_repairing.specs.Repairs.{IsSetFor, differs, row_at, rows_for, rows_set};
 
 use an_base::memory::OutOfMemory;
 use ib_cells::cells::Cells;
@@ -26,6 +29,52 @@ pub struct SetRow {
     pub had: Option<u8>,
 }
 
+// How many LIDs there are, with those that are for multicast.
+const LIDS: usize = 1 << 16;
+
+/// For how many LIDs rows are set.
+pub fn count_lids(alloc: Global, rows: &[SetRow]) -> Result<u64, OutOfMemory>
+    ensures { IfOk result (λ count. IsCountOf (IsSetFor rows.now) count) }
+{
+    let mut flags = no_flags(alloc)?;
+    Ok(flag_all(&mut flags, rows))
+}
+
+// Flags the LIDs of rows. Answers how many there are.
+fn flag_all(flags: &mut [bool], rows: &[SetRow]) -> u64
+    requires { flags.old ≡ replicate (2 ^ 16) false }
+    ensures { IsCountOf (IsSetFor rows.now) result }
+{
+    let mut count = 0u64;
+    'rows: for row in rows {
+        count += flag(flags, *row);
+    }
+    count
+}
+
+// A flag for each LID, none of which is set.
+fn no_flags(alloc: Global) -> Result<Vec<bool>, OutOfMemory>
+    ensures { IfOk result (λ flags. flags.items ≡ replicate (2 ^ 16) false) }
+{
+    let flags = vec![in alloc; false; LIDS]?;
+    Ok(flags)
+}
+
+// Flags the LID of a row. Answers 1 if it was not flagged before, else 0.
+fn flag(flags: &mut [bool], row: SetRow) -> u64
+    requires { length flags.old ≡ 2 ^ 16 }
+    ensures flagged { (rows : List SetRow) (count : ℕ) → AreFlagged rows flags.old count
+        → AreFlagged (rows ++ row ∷ []) flags.new (count + result) }
+    ensures few { result ≤ 1 }
+{
+    let lid = usize::from(row.lid);
+    if flags[lid] {
+        return 0;
+    }
+    flags[lid] = true;
+    1
+}
+
 /// The rows that are set: by switch, and those of a switch by LID.
 pub fn rows_set(
     alloc: Global,
@@ -35,7 +84,7 @@ pub fn rows_set(
 ) -> Result<Vec<SetRow>, OutOfMemory>
     requires switches { given.now.switches ≡ switch_count fabric.now }
     requires lids { length fabric.now.owners ≤ 64 * given.now.blocks }
-    requires made { AreTablesFor fabric.now made.now }
+    requires made { AreRepairedOf fabric.now given.now made.now }
     ensures { IfOk result (λ rows. rows.items
         ≡ rows_set fabric.now (tables_of given.now) (tables_of made.now)) }
 {
@@ -56,7 +105,7 @@ fn push_rows(
 ) -> Result<(), OutOfMemory>
     requires switches { given.now.switches ≡ switch_count fabric.now }
     requires lids { length fabric.now.owners ≤ 64 * given.now.blocks }
-    requires made { AreTablesFor fabric.now made.now }
+    requires made { AreRepairedOf fabric.now given.now made.now }
     requires fabric { IsFabric fabric.now }
     requires switch { switch < switch_count fabric.now }
     ensures { OnOk result (rows.new.items ≡ rows.old.items
@@ -79,7 +128,7 @@ fn push_row(
 ) -> Result<(), OutOfMemory>
     requires switches { given.now.switches ≡ switch_count fabric.now }
     requires lids { length fabric.now.owners ≤ 64 * given.now.blocks }
-    requires made { AreTablesFor fabric.now made.now }
+    requires made { AreRepairedOf fabric.now given.now made.now }
     requires fabric { IsFabric fabric.now }
     requires switch { switch < switch_count fabric.now }
     requires lid { lid < length fabric.now.owners }

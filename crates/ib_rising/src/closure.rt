@@ -229,10 +229,17 @@ fn shorten(plan: Plan<'_>, ways: &mut Ways, target: u32) -> Result<(), OutOfMemo
 }
 
 // The switches that are to have a way and have none.
-fn find_missing(alloc: Global, plan: Plan<'_>, ways: &Ways) -> Result<Vec<u32>, OutOfMemory> {
+fn find_missing(
+    alloc: Global,
+    plan: Plan<'_>,
+    ways: &Ways,
+    target: u32,
+) -> Result<Vec<u32>, OutOfMemory> {
+    let is_from_all = plan.is_from_all(target);
     let mut missing = Vec::new(alloc);
     'switches: for switch in 0..plan.channels.switches() {
-        if ways.depth(switch) == FAR && plan.sends_from(switch) {
+        let sends = is_from_all || plan.demand.hosts(switch) > 0;
+        if sends && ways.depth(switch) == FAR {
             missing.push(switch)?;
         }
     }
@@ -259,12 +266,12 @@ fn close_missing(
     ways: &mut Ways,
     target: u32,
 ) -> Result<(), OutOfMemory> {
-    if plan.missing(ways) == 0 {
+    if plan.missing(ways, target) == 0 {
         return Ok(());
     }
     raise(plan, ways, target);
     extend(plan, ways, target)?;
-    let missing = find_missing(alloc, plan, ways)?;
+    let missing = find_missing(alloc, plan, ways, target)?;
     if missing.is_empty() {
         return ways.arrange(plan.channels, target);
     }

@@ -22,11 +22,13 @@ pub struct Plan<'a> {
     pub most: u32,
 }
 
-/// Whether routes of a traffic begin at a switch.
-pub fn sends_from(traffic: Traffic, demand: &Demand, switch: u32) -> bool {
+/// Whether routes of a traffic to a target begin at all switches, and not only at those with end ports of adapters and
+/// routers. `Rows` is as `All`: no tables that are made have rows for LIDs that nobody owns.
+pub fn is_from_all(traffic: Traffic, target: Target) -> bool {
     match traffic {
-        Traffic::Hosts | Traffic::Lids => demand.hosts(switch) > 0,
-        Traffic::All => true,
+        Traffic::Hosts | Traffic::Lids => false,
+        Traffic::Managed => target.is_host(),
+        Traffic::All | Traffic::Rows => true,
     }
 }
 
@@ -34,14 +36,15 @@ pub fn sends_from(traffic: Traffic, demand: &Demand, switch: u32) -> bool {
 pub fn sends_to(traffic: Traffic, target: Target) -> bool {
     match traffic {
         Traffic::Hosts => target.is_host(),
-        Traffic::Lids | Traffic::All => true,
+        Traffic::Lids | Traffic::Managed | Traffic::All | Traffic::Rows => true,
     }
 }
 
 impl Plan<'_> {
-    /// Whether routes of the traffic begin at a switch.
-    pub fn sends_from(self, switch: u32) -> bool {
-        sends_from(self.traffic, self.demand, switch)
+    /// Whether routes of the traffic to some target at a switch begin at all switches.
+    pub fn is_from_all(self, switch: u32) -> bool {
+        let mut targets = self.demand.targets_at(switch).iter();
+        targets.any(|target| is_from_all(self.traffic, *target))
     }
 
     /// Whether routes of the traffic lead to a target.
@@ -61,11 +64,13 @@ impl Plan<'_> {
         targets.filter(|target| self.sends_to(**target)).count() as u64
     }
 
-    /// From how many switches routes of the traffic begin that have no way.
-    pub fn missing(self, ways: &Ways) -> u64 {
+    /// From how many switches routes of the traffic to a target begin that have no way.
+    pub fn missing(self, ways: &Ways, target: u32) -> u64 {
+        let is_from_all = self.is_from_all(target);
         let mut missing = 0u64;
         'switches: for switch in 0..self.channels.switches() {
-            if ways.depth(switch) == FAR && self.sends_from(switch) {
+            let sends = is_from_all || self.demand.hosts(switch) > 0;
+            if sends && ways.depth(switch) == FAR {
                 missing = missing.wrapping_add(1);
             }
         }

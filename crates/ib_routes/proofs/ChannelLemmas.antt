@@ -12,7 +12,7 @@ use Rattle.ib_routes.specs.declared.traffic.Traffic.{Traffic}
 use Rattle.ib_routes.specs.declared.hop.Hop.TheVariants.{On}
 use Rattle.ib_net.specs.Fabric.{FabricOf, IsFabric, LeadsWithin, switch_count, side_of, owner_of}
 use Rattle.ib_cells.specs.Cells.{TablesOf}
-use Rattle.ib_routes.specs.Routes.{hop, hop_by, hop_over, end_if, is_host, is_switch, Channel, Takes}
+use Rattle.ib_routes.specs.Routes.{hop, hop_by, hop_over, end_if, ends_at_host, ends_at_switch, Channel, Takes}
 use Rattle.ib_routes.specs.Links.{IsTo}
 use Rattle.ib_routes.specs.Waves.{IsGraphOf, IsLink}
 use Rattle.ib_routes.specs.Found.{IsChannel, number}
@@ -53,7 +53,7 @@ no_on false port next is = cc
 over : (owner : Option EndPort) (port : ℕ) (side : Side) (by next : ℕ) → hop_over owner port side ≡ On by next → (port ≡ by) × ((entry : ℕ) × (side ≡ To next entry))
 over owner port Bare by next is = absurd (cc)
 over owner port (To to entry) by next is = ((cc), (entry, (cc)))
-over owner port (End end) by next is = absurd (no_on (is_host owner end) by next is)
+over owner port (End end) by next is = absurd (no_on (ends_at_host owner end) by next is)
 
 choose : (b c : Bool) (owner : Option EndPort) (port : ℕ) (side : Side) (by next : ℕ) → cond b (end_if c) (hop_over owner port side) ≡ On by next → (port ≡ by) × ((entry : ℕ) × (side ≡ To next entry))
 choose true c owner port side by next is = absurd (no_on c by next is)
@@ -62,7 +62,7 @@ choose false c owner port side by next is = over owner port side by next is
 by_port : (fabric : FabricOf) (switch lid : ℕ) (told : Option ℕ) (by next : ℕ) → hop_by fabric switch lid told ≡ On by next → (entry : ℕ) × (side_of fabric switch by ≡ To next entry)
 by_port fabric switch lid None by next is = absurd (cc)
 by_port fabric switch lid (Some port) by next is =
-    let found = choose (eqb port 0) (is_switch (owner_of fabric lid) switch) (owner_of fabric lid) port (side_of fabric switch port) by next is in
+    let found = choose (eqb port 0) (ends_at_switch (owner_of fabric lid) switch) (owner_of fabric lid) port (side_of fabric switch port) by next is in
     (found.1.0, ap (λ (p : ℕ). side_of fabric switch p) (sym found.0) ∙ found.1.1)
 
 pub on_link : (fabric : FabricOf) (tables : TablesOf) (switch lid by next : ℕ) → hop fabric tables switch lid ≡ On by next → (entry : ℕ) × (side_of fabric switch by ≡ To next entry)
@@ -131,7 +131,7 @@ module _ (fabric : FabricOf) where
 -- what the side of a port says of the hop by it
 pub no_next : (fabric : FabricOf) (switch lid port : ℕ) → (IsTo (side_of fabric switch port) → ⊥) → (by next : ℕ) → hop_by fabric switch lid (Some port) ≡ On by next → ⊥
 no_next fabric switch lid port none by next is =
-    let found = choose (eqb port 0) (is_switch (owner_of fabric lid) switch) (owner_of fabric lid) port (side_of fabric switch port) by next is in
+    let found = choose (eqb port 0) (ends_at_switch (owner_of fabric lid) switch) (owner_of fabric lid) port (side_of fabric switch port) by next is in
     none (subst IsTo (sym found.1.1) tt)
 
 to_of : (side : Side) → IsTo side → (next entry : ℕ) × (side ≡ To next entry)
@@ -148,7 +148,7 @@ goes_next fabric switch lid port is =
     let to = to_of (side_of fabric switch port) is in
     let low = link_low (fabric.most + 1) (get_or fabric.sides (switch * fabric.most + (port - 1)) Bare) port to.0 to.1 to.2 in
     let used = low.0 in
-    (to.0, turn_on (eqb port 0) (is_switch (owner_of fabric lid) switch) (owner_of fabric lid) port (side_of fabric switch port) to.0 to.1 (grind (arith, nat_tests)) to.2)
+    (to.0, turn_on (eqb port 0) (ends_at_switch (owner_of fabric lid) switch) (owner_of fabric lid) port (side_of fabric switch port) to.0 to.1 (grind (arith, nat_tests)) to.2)
 
 module _ (fabric : FabricOf) (tables : TablesOf) (switch lid : ℕ) where
   by_table : (told : Option ℕ) → told ≡ tables switch lid → hop fabric tables switch lid ≡ hop_by fabric switch lid told

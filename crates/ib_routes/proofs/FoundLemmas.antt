@@ -1,7 +1,6 @@
 -- Block after block.
-use Rattle.std.proofs.Common.{◌≡◌, ◌∙◌, subst, refl, ℕ, ◌+◌, ◌-◌, ◌*◌, ◌<◌, ◌≤◌, Bool, false, None, arith, length, inl, inr, ◌⊎◌}
+use Rattle.std.proofs.Common.{◌≡◌, ◌∙◌, subst, refl, ℕ, ◌+◌, ◌-◌, ◌*◌, ◌<◌, Bool, false, arith, inl, inr, ◌⊎◌}
 use Rattle.std.proofs.lemmas.Bool.{cases_lt}
-use Rattle.std.proofs.lemmas.List.{get_or_past}
 use Rattle.channel_graph.specs.Graph.{GraphOf}
 use Rattle.ib_net.specs.declared.node.EndPort.{EndPort}
 use Rattle.ib_routes.specs.declared.traffic.Traffic.{Traffic}
@@ -67,13 +66,7 @@ module _ (fabric : FabricOf) (tables : TablesOf) (traffic : Traffic) where
     }
 
   -- to a LID beyond all blocks no one sends
-  module _ (blocks : ℕ) (owners : length fabric.owners ≤ 64 * blocks) where
-    sent_low : (lid : ℕ) (source : EndPort) → Sends fabric traffic lid source → lid < 64 * blocks
-    sent_low lid source sends = elim (cases_lt lid (64 * blocks)) [
-      | inl low ↦ low
-      | inr high ↦ absurd (let past = get_or_past fabric.owners lid None (omega arith) in let owns = sends.owns in cc)
-    ]
-
+  module _ (blocks : ℕ) (low : (lid : ℕ) (source : EndPort) → Sends fabric tables traffic lid source → lid < 64 * blocks) where
     pub found_all : (old new : GraphOf) (told : Bool) → AreFoundBelow fabric tables traffic (64 * blocks) old new told → AreFound fabric tables traffic old new told
     found_all old new told found = record {
       leads = λ one other. (
@@ -83,12 +76,12 @@ module _ (fabric : FabricOf) (tables : TablesOf) (traffic : Traffic) where
         ],
         λ either. elim either [
           | inl had ↦ (found.leads one other).1 (inl had)
-          | inr (lid, takes) ↦ (found.leads one other).1 (inr (lid, sent_low lid takes.source takes.takes.comes.sends, takes))
+          | inr (lid, takes) ↦ (found.leads one other).1 (inr (lid, low lid takes.source takes.takes.comes.sends, takes))
         ],
       );
       stopped = (
         λ is. let l = found.stopped.0 is in (l.0, l.2),
-        λ (lid, (source, stopped)). found.stopped.1 (lid, sent_low lid source stopped.1.sends, (source, stopped)),
+        λ (lid, (source, stopped)). found.stopped.1 (lid, low lid source stopped.1.sends, (source, stopped)),
       );
       wide = found.wide;
       bases = found.bases;

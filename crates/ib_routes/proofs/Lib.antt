@@ -3,6 +3,8 @@ mod TakenLemmas
 pub mod WordLemmas
 mod RunLemmas
 pub mod StartLemmas
+mod AudienceLemmas
+mod SenderLemmas
 mod FoundLemmas
 pub mod ChannelLemmas
 pub mod TraceLemmas

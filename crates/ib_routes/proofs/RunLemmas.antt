@@ -67,7 +67,7 @@ module _ (fabric : FabricOf) (tables : TablesOf) (block : ℕ) (initial : StateO
   }
 
   -- where all that was seen is done, just the dependencies of the routes are there
-  module _ (now : StateOf) (done : List ℕ) (run : IsRunning fabric tables block initial now done) (rest : (switch bit : ℕ) → switch < (switch_count fabric) → HasBit now.seen switch bit → HasBit done switch bit) (traffic : Traffic) (starts : AreStarts fabric traffic block initial.seen) where
+  module _ (now : StateOf) (done : List ℕ) (run : IsRunning fabric tables block initial now done) (rest : (switch bit : ℕ) → switch < (switch_count fabric) → HasBit now.seen switch bit → HasBit done switch bit) (traffic : Traffic) (starts : AreStarts fabric tables traffic block initial.seen) where
     all_done : (switch bit : ℕ) → HasBit now.seen switch bit → HasBit done switch bit
     all_done switch bit has = rest switch bit (let low = has_low now.seen switch bit has in let e = run.seen_count in omega arith) has
 

@@ -2,7 +2,6 @@
 use Rattle.std.proofs.Common.{◌≡◌, sym, subst, ℕ, ◌+◌, ◌*◌, ◌/◌, ◌%◌, ◌<◌, ◌≤◌, Option, None, Some, arith, length, inl, inr}
 use Rattle.std.specs.Prelude.{MatchOption}
 use Rattle.std.proofs.lemmas.Bool.{cases_lt}
-use Rattle.std.proofs.lemmas.List.{get_or_past}
 use Rattle.ib_net.specs.declared.node.EndPort.{EndPort}
 use Rattle.ib_net.specs.declared.node.EndPort.TheVariants.{Host, Switch}
 use Rattle.ib_net.specs.Fabric.{FabricOf, IsFabric, guid_of, start_of, switch_count}
@@ -11,44 +10,45 @@ use Rattle.ib_cells.specs.Cells.{TablesOf}
 use Rattle.ib_routes.specs.declared.hop.Cause.{Cause}
 use Rattle.ib_routes.specs.declared.hop.Outcome.TheVariants.{Arrives, Stops, Loops}
 use Rattle.ib_routes.specs.declared.traffic.Traffic.{Traffic}
-use Rattle.ib_routes.specs.Routes.{Channel, ComesBy, ComesTo, EndsAs, Sends, Takes}
+use Rattle.ib_routes.specs.declared.audience.Audience.{Audience}
+use Rattle.ib_routes.specs.declared.traffic.Traffic.TheVariants.{All}
+use Rattle.ib_routes.specs.Audience.{IsAudience, IsHeard}
+use Rattle.ib_routes.specs.Routes.{Channel, ComesBy, EndsAs, Takes}
 use Rattle.ib_routes.specs.Found.{IsLeastWitness}
 use Rattle.ib_routes.specs.Trace.{hop_to, way}
-use Rattle.ib_routes.specs.Witness.{Comes, GoesBy, IsFirst, IsFirstSource, IsLeastAt, IsLesser, NoSourceTakes}
+use Rattle.ib_routes.specs.Witness.{ComesFor, GoesBy, IsFirst, IsFirstSource, IsLeastAt, IsLesser, NoSourceTakes}
+use Rattle.ib_routes.proofs.AudienceLemmas.{heard_is}
 use Rattle.ib_routes.proofs.StartLemmas.{cabled_low, source_low}
 use Rattle.ib_routes.proofs.UntilLemmas.{arrives_alone, arrives_comes, arrives_soon, comes_arrives}
 
-module _ (fabric : FabricOf) (tables : TablesOf) (traffic : Traffic) (lid via : ℕ) where
+module _ (fabric : FabricOf) (tables : TablesOf) (audience : Audience) (lid via : ℕ) where
   same_lid : 64 * (lid / 64) + lid % 64 ≡ lid
   same_lid = omega arith
 
-  pub arrives_to : (source : EndPort) (start switches : ℕ) → Sends fabric traffic lid source → start_of fabric source ≡ Some start → EndsAs (hop_to fabric tables (way lid via)) start (Arrives switches) → ComesTo fabric tables traffic lid source via
-  arrives_to source start switches sends begins ends =
+  pub arrives_to : (source : EndPort) (start switches : ℕ) → IsHeard fabric audience lid source → start_of fabric source ≡ Some start → EndsAs (hop_to fabric tables (way lid via)) start (Arrives switches) → ComesFor fabric tables audience lid via source
+  arrives_to source start switches heard begins ends =
       let walk = arrives_comes fabric tables (lid / 64) (lid % 64) via start switches ends in
-      record { sends = sends; start = start; begins = begins; hops = walk.0; comes = subst (λ (d : ℕ). ComesBy fabric tables d walk.0 start via) same_lid walk.1 }
+      record { heard = heard; start = start; begins = begins; hops = walk.0; comes = subst (λ (d : ℕ). ComesBy fabric tables d walk.0 start via) same_lid walk.1 }
 
-  would_arrive : (source : EndPort) (start : ℕ) → start_of fabric source ≡ Some start → ComesTo fabric tables traffic lid source via → (switches : ℕ) × EndsAs (hop_to fabric tables (way lid via)) start (Arrives switches)
+  would_arrive : (source : EndPort) (start : ℕ) → start_of fabric source ≡ Some start → ComesFor fabric tables audience lid via source → (switches : ℕ) × EndsAs (hop_to fabric tables (way lid via)) start (Arrives switches)
   would_arrive source start begins comes =
       let other = comes.begins in
       let same : comes.start ≡ start = cc in
       comes_arrives fabric tables (lid / 64) (lid % 64) via comes.hops start
       (subst (λ (d : ℕ). ComesBy fabric tables d comes.hops start via) (sym same_lid) (subst (λ (s : ℕ). ComesBy fabric tables lid comes.hops s via) same comes.comes))
 
-  pub no_stop : (source : EndPort) (start : ℕ) (cause : Cause) → start_of fabric source ≡ Some start → EndsAs (hop_to fabric tables (way lid via)) start (Stops cause) → ComesTo fabric tables traffic lid source via → ⊥
+  pub no_stop : (source : EndPort) (start : ℕ) (cause : Cause) → start_of fabric source ≡ Some start → EndsAs (hop_to fabric tables (way lid via)) start (Stops cause) → ComesFor fabric tables audience lid via source → ⊥
   no_stop source start cause begins ends comes = let arrives = would_arrive source start begins comes in arrives_alone (hop_to fabric tables (way lid via)) start arrives.0 cause arrives.1 ends
 
-  pub no_loop : (source : EndPort) (start : ℕ) → start_of fabric source ≡ Some start → EndsAs (hop_to fabric tables (way lid via)) start Loops → ComesTo fabric tables traffic lid source via → ⊥
+  pub no_loop : (source : EndPort) (start : ℕ) → start_of fabric source ≡ Some start → EndsAs (hop_to fabric tables (way lid via)) start Loops → ComesFor fabric tables audience lid via source → ⊥
   no_loop source start begins ends comes = let arrives = would_arrive source start begins comes in arrives_soon (hop_to fabric tables (way lid via)) start arrives.0 arrives.1 ends
 
-  pub no_start : (source : EndPort) → None ≡ start_of fabric source → ComesTo fabric tables traffic lid source via → ⊥
-  no_start source none comes = let begins = comes.begins in absurd (cc)
-
   -- who comes is one of the fabric
-  pub host_low : (end : ℕ) → ComesTo fabric tables traffic lid (Host end) via → end < length fabric.cables
-  host_low end comes = let source = comes.sends.is_source in cabled_low fabric traffic end source.0 source.1
+  pub host_low : (end : ℕ) → ComesFor fabric tables audience lid via (Host end) → end < length fabric.cables
+  host_low end comes = cabled_low fabric end comes.start comes.begins
 
-  pub switch_low : (switch : ℕ) → ComesTo fabric tables traffic lid (Switch switch) via → switch < switch_count fabric
-  switch_low switch comes = source_low fabric traffic switch comes.sends.is_source
+  pub switch_low : (switch : ℕ) → ComesFor fabric tables audience lid via (Switch switch) → switch < switch_count fabric
+  switch_low switch comes = source_low fabric All switch (heard_is fabric audience (Switch switch) comes.heard.is_from)
 
 -- the first of hosts and the first of switches
 module _ (fabric : FabricOf) (fits : IsFabric fabric) (Is : EndPort → Type 0) (host_is : (end : ℕ) → Is (Host end) → end < length fabric.cables) (switch_is : (switch : ℕ) → Is (Switch switch) → switch < switch_count fabric) where
@@ -100,25 +100,40 @@ module _ (fabric : FabricOf) (fits : IsFabric fabric) (Is : EndPort → Type 0) 
 
 -- who comes to the switch of a channel takes it and the next
 module _ (fabric : FabricOf) (tables : TablesOf) (traffic : Traffic) (lid : ℕ) (channel next : Channel) where
-  pub takes_of : GoesBy fabric tables lid channel next → (source : EndPort) → ComesTo fabric tables traffic lid source channel.switch → Takes fabric tables traffic lid source channel next
-  takes_of goes source comes = record { comes = comes; first = goes.0; after = goes.1.0; second = goes.1.1 }
-
   pub goes_of : (source : EndPort) → Takes fabric tables traffic lid source channel next → GoesBy fabric tables lid channel next
   goes_of source takes = (takes.first, (takes.after, takes.second))
 
-  abbrev IsAt : Option EndPort → Type 0
-  IsAt found = MatchOption found (NoSourceTakes fabric tables traffic lid channel next) (IsLeastAt fabric tables traffic lid channel next)
+  -- by the audience of the LID
+  module _ (audience : Audience) (is : IsAudience fabric tables traffic lid audience) where
+    abbrev pub Comes : EndPort → Type 0
+    Comes source = ComesFor fabric tables audience lid channel.switch source
 
-  pub least_at : GoesBy fabric tables lid channel next → (found : Option EndPort) → MatchOption found ((source : EndPort) → Comes fabric tables traffic lid channel.switch source → ⊥) (IsFirstSource fabric (Comes fabric tables traffic lid channel.switch)) → IsAt found
-  least_at goes None none = λ source takes. none source takes.comes
-  least_at goes (Some source) has = record { takes = takes_of goes source has.is; first = λ other takes. has.first other takes.comes }
+    pub comes_of : (source : EndPort) → Takes fabric tables traffic lid source channel next → Comes source
+    comes_of source takes = record {
+      heard = (is source).0 takes.comes.sends;
+      start = takes.comes.start;
+      begins = takes.comes.begins;
+      hops = takes.comes.hops;
+      comes = takes.comes.comes;
+    }
 
--- to a LID beyond those that have owners no one sends
-pub owned_low : (fabric : FabricOf) (traffic : Traffic) (lid : ℕ) (source : EndPort) → Sends fabric traffic lid source → lid < length fabric.owners
-owned_low fabric traffic lid source sends = elim (cases_lt lid (length fabric.owners)) [
-  | inl low ↦ low
-  | inr past ↦ absurd (let none = get_or_past fabric.owners lid None past in let owns = sends.owns in cc)
-]
+    takes_of : GoesBy fabric tables lid channel next → (source : EndPort) → Comes source → Takes fabric tables traffic lid source channel next
+    takes_of goes source comes = record {
+      comes = record {
+        sends = (is source).1 comes.heard;
+        start = comes.start;
+        begins = comes.begins;
+        hops = comes.hops;
+        comes = comes.comes;
+      };
+      first = goes.0;
+      after = goes.1.0;
+      second = goes.1.1;
+    }
+
+    pub least_at : GoesBy fabric tables lid channel next → (found : Option EndPort) → MatchOption found ((source : EndPort) → Comes source → ⊥) (IsFirstSource fabric Comes) → MatchOption found (NoSourceTakes fabric tables traffic lid channel next) (IsLeastAt fabric tables traffic lid channel next)
+    least_at goes None none = λ source takes. none source (comes_of source takes)
+    least_at goes (Some source) has = record { takes = takes_of goes source has.is; first = λ other takes. has.first other (comes_of other takes) }
 
 -- the least LID
 pub least_witness : (fabric : FabricOf) (tables : TablesOf) (traffic : Traffic) (lid : ℕ) (channel next : Channel) (source : EndPort) → ((other : ℕ) → other < lid → NoSourceTakes fabric tables traffic other channel next) → IsLeastAt fabric tables traffic lid channel next source → IsLeastWitness fabric tables traffic channel next lid source

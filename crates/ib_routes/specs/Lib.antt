@@ -1,4 +1,5 @@
 pub mod Routes
+pub mod Audience
 pub mod Starts
 pub mod Waves
 pub mod Found

@@ -1,45 +1,46 @@
 -- Routes by forwarding tables, and which channel depends on which.
-use Rattle.std.specs.Prelude.{◌≡◌, ◌≢◌, ◌<◌, ◌+◌, ◌==◌, ℕ, zero, suc, Bool, false, Option, Some, None, if◌then◌else◌}
+use Rattle.std.specs.Prelude.{◌≡◌, ◌≢◌, ◌<◌, ◌+◌, ◌==◌, ◌⊎◌, ℕ, zero, suc, Bool, true, false, Option, Some, None, if◌then◌else◌}
 use Rattle.ib_net.specs.declared.node.Side.{Side}
 use Rattle.ib_net.specs.declared.node.Side.TheVariants.{Bare, To, End}
 use Rattle.ib_net.specs.declared.node.EndPort.{EndPort}
 use Rattle.ib_net.specs.declared.node.EndPort.TheVariants.{Host, Switch}
 use Rattle.ib_routes.specs.declared.traffic.Traffic.{Traffic}
-use Rattle.ib_routes.specs.declared.traffic.Traffic.TheVariants.{Hosts, Lids, All}
+use Rattle.ib_routes.specs.declared.traffic.Traffic.TheVariants.{Hosts, Lids, Managed, All, Rows}
 use Rattle.ib_routes.specs.declared.hop.Hop.{Hop}
 use Rattle.ib_routes.specs.declared.hop.Hop.TheVariants.{On, Arrive, Stop}
 use Rattle.ib_routes.specs.declared.hop.Outcome.{Outcome}
 use Rattle.ib_routes.specs.declared.hop.Outcome.TheVariants.{Arrives, Stops, Loops}
 use Rattle.ib_routes.specs.declared.hop.Cause.TheVariants.{Missing, Dead, Wrong}
 use Rattle.ib_net.specs.Fabric.{FabricOf, switch_count, side_of, owner_of, start_of}
-use Rattle.ib_cells.specs.Cells.{TablesOf}
+use Rattle.ib_cells.specs.Cells.{TablesOf, HasRow}
 
--- whether the owner of a LID is this end port of an adapter or router, and whether it is this switch
-abbrev pub is_host : Option EndPort → ℕ → Bool
-is_host (Some (Host end)) other = end == other
-is_host (Some (Switch switch)) other = false
-is_host None other = false
+-- Whether what goes to a LID arrives at an end port of an adapter or router, and whether at a switch, by the owner of the
+-- LID: there alone. What goes to a LID that nobody owns arrives at each.
+abbrev pub ends_at_host : Option EndPort → ℕ → Bool
+ends_at_host (Some (Host end)) other = end == other
+ends_at_host (Some (Switch switch)) other = false
+ends_at_host None other = true
 
-abbrev pub is_switch : Option EndPort → ℕ → Bool
-is_switch (Some (Host end)) other = false
-is_switch (Some (Switch switch)) other = switch == other
-is_switch None other = false
+abbrev pub ends_at_switch : Option EndPort → ℕ → Bool
+ends_at_switch (Some (Host end)) other = false
+ends_at_switch (Some (Switch switch)) other = switch == other
+ends_at_switch None other = true
 
--- at the owner of the LID, or at another
+-- at an end port where it arrives, or at another
 abbrev pub end_if : Bool → Hop
-end_if is_own = if is_own then Arrive else Stop Wrong
+end_if arrives = if arrives then Arrive else Stop Wrong
 
--- by a port with this side: on to the switch there, or to the end port, which has to own the LID
+-- by a port with this side, and the owner of the LID: on to the switch there, or to the end port
 abbrev pub hop_over : Option EndPort → ℕ → Side → Hop
 hop_over owner port Bare = Stop Dead
 hop_over owner port (To next entry) = On port next
-hop_over owner port (End end) = end_if (is_host owner end)
+hop_over owner port (End end) = end_if (ends_at_host owner end)
 
 -- by what the table says: port 0 is the switch itself
 abbrev pub hop_by : FabricOf → ℕ → ℕ → Option ℕ → Hop
 hop_by fabric switch lid None = Stop Missing
 hop_by fabric switch lid (Some port) = if port == 0
-    then end_if (is_switch (owner_of fabric lid) switch)
+    then end_if (ends_at_switch (owner_of fabric lid) switch)
     else hop_over (owner_of fabric lid) port (side_of fabric switch port)
 
 -- what a switch does with what goes to a LID
@@ -50,26 +51,54 @@ hop fabric tables switch lid = hop_by fabric switch lid (tables switch lid)
 abbrev pub IsCabled : FabricOf → ℕ → Type 0
 IsCabled fabric end = (switch : ℕ) × (start_of fabric (Host end) ≡ Some switch)
 
--- which end ports send, and to the LIDs of which
+-- which end ports send
 abbrev pub IsSource : FabricOf → Traffic → EndPort → Type 0
 IsSource fabric traffic (Host end) = IsCabled fabric end
 IsSource fabric Hosts (Switch switch) = ⊥
 IsSource fabric Lids (Switch switch) = ⊥
+IsSource fabric Managed (Switch switch) = switch < switch_count fabric
 IsSource fabric All (Switch switch) = switch < switch_count fabric
+IsSource fabric Rows (Switch switch) = switch < switch_count fabric
 
+-- to the LIDs of which end ports
 abbrev pub IsTarget : FabricOf → Traffic → EndPort → Type 0
 IsTarget fabric traffic (Host end) = IsCabled fabric end
 IsTarget fabric Hosts (Switch switch) = ⊥
 IsTarget fabric Lids (Switch switch) = Unit {0}
+IsTarget fabric Managed (Switch switch) = Unit {0}
 IsTarget fabric All (Switch switch) = Unit {0}
+IsTarget fabric Rows (Switch switch) = Unit {0}
+
+-- by `Managed` switches do not write to one another
+abbrev pub MayWrite : Traffic → (source owner : EndPort) → Type 0
+MayWrite Hosts source owner = Unit {0}
+MayWrite Lids source owner = Unit {0}
+MayWrite Managed (Host end) owner = Unit {0}
+MayWrite Managed (Switch switch) (Host end) = Unit {0}
+MayWrite Managed (Switch switch) (Switch other) = ⊥
+MayWrite All source owner = Unit {0}
+MayWrite Rows source owner = Unit {0}
 
 -- an end port sends to a LID of another one
-pub record Sends (fabric : FabricOf) (traffic : Traffic) (lid : ℕ) (source : EndPort) : Type 0 where
+pub record SendsToOwner (fabric : FabricOf) (traffic : Traffic) (lid : ℕ) (source : EndPort) : Type 0 where
   pub is_source : IsSource fabric traffic source
   pub owner : EndPort
   pub owns : owner_of fabric lid ≡ Some owner
   pub is_target : IsTarget fabric traffic owner
+  pub may : MayWrite traffic source owner
   pub other : source ≢ owner
+
+-- by `Rows` each sends to a LID that nobody owns, if some switch has a port for it
+pub record SendsToNobody (fabric : FabricOf) (tables : TablesOf) (traffic : Traffic) (lid : ℕ) (source : EndPort) : Type 0 where
+  pub by_rows : traffic ≡ Rows
+  pub is_source : IsSource fabric traffic source
+  pub unowned : owner_of fabric lid ≡ None
+  pub has_row : HasRow tables lid
+
+-- an end port sends to a LID
+abbrev pub Sends : FabricOf → TablesOf → Traffic → ℕ → EndPort → Type 0
+Sends fabric tables traffic lid source =
+    SendsToOwner fabric traffic lid source ⊎ SendsToNobody fabric tables traffic lid source
 
 -- from one switch to another by so many hops, if each switch hops as told
 abbrev pub WalksBy : (ℕ → Hop) → ℕ → ℕ → ℕ → Type 0
@@ -83,7 +112,7 @@ ComesBy fabric tables lid = WalksBy (λ at. hop fabric tables at lid)
 
 -- the route of an end port to a LID comes to a switch
 pub record ComesTo (fabric : FabricOf) (tables : TablesOf) (traffic : Traffic) (lid : ℕ) (source : EndPort) (at : ℕ) : Type 0 where
-  pub sends : Sends fabric traffic lid source
+  pub sends : Sends fabric tables traffic lid source
   pub start : ℕ
   pub begins : start_of fabric source ≡ Some start
   pub hops : ℕ

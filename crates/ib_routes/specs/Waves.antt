@@ -25,10 +25,10 @@ abbrev pub HasBit : List ℕ → ℕ → ℕ → Type 0
 HasBit words switch bit = bit_at (slice_index words switch) bit ≡ 1
 
 -- the switches at which routes begin, for each LID of a block
-abbrev pub AreStarts : FabricOf → Traffic → ℕ → List ℕ → Type 0
-AreStarts fabric traffic block words =
+abbrev pub AreStarts : FabricOf → TablesOf → Traffic → ℕ → List ℕ → Type 0
+AreStarts fabric tables traffic block words =
     (switch bit : ℕ) → bit < 64
-    → (HasBit words switch bit ↔ ((source : EndPort) × Sends fabric traffic (64 * block + bit) source × (start_of fabric source ≡ Some switch)))
+    → (HasBit words switch bit ↔ ((source : EndPort) × Sends fabric tables traffic (64 * block + bit) source × (start_of fabric source ≡ Some switch)))
 
 -- by a port of a switch a link leads to another
 pub record IsLink (fabric : FabricOf) (switch port next : ℕ) : Type 0 where
@@ -82,7 +82,7 @@ pub record IsRunning (fabric : FabricOf) (tables : TablesOf) (block : ℕ) (init
   pub within : (switch bit : ℕ) → HasBit done switch bit → HasBit now.seen switch bit
   pub fits : (switch bit : ℕ) → HasBit done switch bit → bit < 64
   pub comes :
-      (traffic : Traffic) → AreStarts fabric traffic block initial.seen → (switch bit : ℕ) → bit < 64 → HasBit now.seen switch bit
+      (traffic : Traffic) → AreStarts fabric tables traffic block initial.seen → (switch bit : ℕ) → bit < 64 → HasBit now.seen switch bit
       → (source : EndPort) × ComesTo fabric tables traffic (64 * block + bit) source switch
   pub seen_count : length now.seen ≡ switch_count fabric
   pub done_count : length done ≡ switch_count fabric

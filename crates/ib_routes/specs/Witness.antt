@@ -1,13 +1,16 @@
--- How a witness is looked for. But for `IsFirst`, `IsFirstSource` and `IsLesser` only private functions cite this.
+-- How a witness is looked for. But for `ComesFor`, `IsFirst`, `IsFirstSource` and `IsLesser` only private functions cite
+-- this.
 use Rattle.std.specs.Prelude.{◌≡◌, ◌<◌, ◌≤◌, ◌⊎◌, ℕ, Option, Some, None}
 use Rattle.ib_net.specs.declared.node.EndPort.{EndPort}
 use Rattle.ib_net.specs.declared.node.EndPort.TheVariants.{Host, Switch}
 use Rattle.ib_net.specs.declared.node.Spot.{Spot}
-use Rattle.ib_net.specs.Fabric.{FabricOf, guid_of}
+use Rattle.ib_net.specs.Fabric.{FabricOf, guid_of, start_of}
 use Rattle.ib_cells.specs.Cells.{TablesOf}
 use Rattle.ib_routes.specs.declared.hop.Hop.TheVariants.{On}
 use Rattle.ib_routes.specs.declared.traffic.Traffic.{Traffic}
-use Rattle.ib_routes.specs.Routes.{Channel, ComesTo, Takes, hop}
+use Rattle.ib_routes.specs.declared.audience.Audience.{Audience}
+use Rattle.ib_routes.specs.Audience.{IsHeard}
+use Rattle.ib_routes.specs.Routes.{Channel, ComesBy, Takes, hop}
 
 -- the switch to which another one sends what goes to a LID out of a port
 abbrev pub IsNextBy : FabricOf → TablesOf → ℕ → Spot → Option ℕ → Type 0
@@ -30,9 +33,13 @@ pub record IsFirstSource (fabric : FabricOf) (Is : EndPort → Type 0) (source :
   pub is : Is source
   pub first : (other : EndPort) → Is other → guid_of fabric source ≤ guid_of fabric other
 
--- the route of an end port to a LID comes to a switch
-abbrev pub Comes : FabricOf → TablesOf → Traffic → (lid via : ℕ) → EndPort → Type 0
-Comes fabric tables traffic lid via source = ComesTo fabric tables traffic lid source via
+-- the route of an end port to a LID comes to a switch, by the audience of the LID
+pub record ComesFor (fabric : FabricOf) (tables : TablesOf) (audience : Audience) (lid via : ℕ) (source : EndPort) : Type 0 where
+  pub heard : IsHeard fabric audience lid source
+  pub start : ℕ
+  pub begins : start_of fabric source ≡ Some start
+  pub hops : ℕ
+  pub comes : ComesBy fabric tables lid hops start via
 
 module _ (fabric : FabricOf) (tables : TablesOf) (traffic : Traffic) (lid : ℕ) where
   -- no route to the LID takes a channel and then another one

@@ -11,7 +11,7 @@ ghost use Rattle.ib_routes.specs.Starts.{AreAllSenders};
 ghost use Rattle.ib_routes.specs.Waves.{HasBit, IsGraphOf, IsWaved};
 
 use crate::link::find_links;
-use crate::start::{Senders, find_senders, put_starts};
+use crate::sender::{Senders, find_senders, put_starts};
 use crate::traffic::Traffic;
 use crate::wave::run;
 use an_base::memory::OutOfMemory;
@@ -48,13 +48,13 @@ pub fn add_block(
     requires same { switch_count fabric.now ≡ cells.now.switches }
     requires block { block < cells.now.blocks }
     requires few { block < 1024 }
-    requires senders { AreAllSenders fabric.now traffic senders.now }
+    requires senders { AreAllSenders fabric.now senders.now }
     requires seen_count { length seen.old ≡ switch_count fabric.now }
     requires done_count { length done.old ≡ switch_count fabric.now }
     requires graph { IsGraphOf fabric.now graph.old }
     ensures { IsWaved fabric.now (tables_of cells.now) traffic block graph.old graph.new stopped result }
 {
-    put_starts(fabric, traffic, block, senders, seen);
+    put_starts(fabric, cells, traffic, block, senders, seen);
     clear(done);
     run(fabric, links, cells, block, seen, done, graph, stopped)
 }
@@ -73,7 +73,7 @@ fn add_blocks(
     requires links { AreLinks fabric.now links.now }
     requires same { switch_count fabric.now ≡ cells.now.switches }
     requires owners { length fabric.now.owners ≤ 64 * cells.now.blocks }
-    requires senders { AreAllSenders fabric.now traffic senders.now }
+    requires senders { AreAllSenders fabric.now senders.now }
     requires seen_count { length seen.old ≡ switch_count fabric.now }
     requires done_count { length done.old ≡ switch_count fabric.now }
     requires graph { IsGraphOf fabric.now graph.old }
@@ -101,7 +101,7 @@ fn add_waves(
     requires links { AreLinks fabric.now links.now }
     requires same { switch_count fabric.now ≡ cells.now.switches }
     requires owners { length fabric.now.owners ≤ 64 * cells.now.blocks }
-    requires senders { AreAllSenders fabric.now traffic senders.now }
+    requires senders { AreAllSenders fabric.now senders.now }
     requires graph { IsGraphOf fabric.now graph.old }
     ensures { MatchResult result
         (λ stopped. AreFound fabric.now (tables_of cells.now) traffic graph.old graph.new stopped)
@@ -115,7 +115,7 @@ fn add_waves(
 }
 
 /// Adds to a graph of the channels of a fabric each dependency that a route of the traffic makes, and no other. Answers
-/// whether a route stops at a place that is not its target. If memory is wanting, nothing is added.
+/// whether a route stops at a place that is not its target. The error is out of memory: then nothing is added.
 pub fn add_dependencies(
     alloc: Global,
     fabric: &Fabric,
@@ -131,7 +131,7 @@ pub fn add_dependencies(
         (λ _. graph.new ≡ graph.old) }
 {
     let links = find_links(alloc, fabric)?;
-    let senders = find_senders(alloc, fabric, traffic)?;
+    let senders = find_senders(alloc, fabric)?;
     add_waves(alloc, fabric, &links, cells, traffic, &senders, graph)
 }
 
@@ -172,7 +172,7 @@ fn find_bases(alloc: Global, fabric: &Fabric) -> Result<Vec<u32>, OutOfMemory>
 }
 
 /// A graph of the channels of a fabric, of which none leads to another. A row has a bit for each port, 64 in a
-/// word. The error is want of memory alone.
+/// word. The error is out of memory alone.
 pub fn no_dependencies(alloc: Global, fabric: &Fabric) -> Result<Graph, OutOfMemory>
     ensures graph { IfOk result (λ graph. IsGraphOf fabric.now graph) }
     ensures none { IfOk result (λ graph. (one other : ℕ) → LeadsTo graph one other → ⊥) }

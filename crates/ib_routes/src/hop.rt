@@ -4,7 +4,7 @@ ghost use Rattle.std.specs.Prelude.{◌≡◌, ◌<◌, ◌≤◌, ◌+◌, ◌*
 ghost use Rattle.ib_cells.specs.Cells.{tables_of};
 ghost use Rattle.ib_net.specs.Fabric.{owner_of, side_of, LeadsWithin, switch_count};
 ghost use Rattle.ib_routes.specs.Waves.{IsByLink};
-ghost use Rattle.ib_routes.specs.Routes.{hop, hop_by, hop_over, end_if, is_host, is_switch};
+ghost use Rattle.ib_routes.specs.Routes.{hop, hop_by, hop_over, end_if, ends_at_host, ends_at_switch};
 
 use ib_cells::cells::Cells;
 use ib_net::fabric::Fabric;
@@ -17,7 +17,8 @@ pub enum Cause {
     Missing,
     /// The port is bare: it leads nowhere.
     Dead,
-    /// The port leads to an end port that does not own the LID. Port 0 is that of the switch itself.
+    /// The port leads to an end port that does not own the LID, and another one does. Port 0 is that of the switch
+    /// itself.
     Wrong,
 }
 
@@ -26,7 +27,7 @@ pub enum Cause {
 pub enum Hop {
     /// It sends it out of this port, to the switch of this place.
     On(u8, u32),
-    /// It hands it to the owner of the LID, which may be its own port 0.
+    /// It hands it to the owner of the LID, which may be its own port 0; if nobody owns the LID, to whichever end port.
     Arrive,
     /// It stops it, by this cause.
     Stop(Cause),
@@ -43,36 +44,36 @@ pub enum Outcome {
     Loops,
 }
 
-/// Whether an end port of an adapter or router owns a LID.
+/// Whether what goes to a LID arrives at an end port of an adapter or router: it owns the LID, or nobody does.
 #[inline]
-pub fn is_of_host(fabric: &Fabric, lid: usize, end: u32) -> bool
-    ensures { result ≡ is_host (owner_of fabric.now lid) end }
+pub fn ends_at_host(fabric: &Fabric, lid: usize, end: u32) -> bool
+    ensures { result ≡ ends_at_host (owner_of fabric.now lid) end }
 {
     match fabric.owner(lid) {
         Some(EndPort::Host(own)) => own == end,
         Some(EndPort::Switch(_)) => false,
-        None => false,
+        None => true,
     }
 }
 
-/// Whether a switch owns a LID.
+/// Whether what goes to a LID arrives at a switch: it owns the LID, or nobody does.
 #[inline]
-pub fn is_of_switch(fabric: &Fabric, lid: usize, switch: usize) -> bool
-    ensures { result ≡ is_switch (owner_of fabric.now lid) switch }
+pub fn ends_at_switch(fabric: &Fabric, lid: usize, switch: usize) -> bool
+    ensures { result ≡ ends_at_switch (owner_of fabric.now lid) switch }
 {
     match fabric.owner(lid) {
         Some(EndPort::Host(_)) => false,
         Some(EndPort::Switch(own)) => own as usize == switch,
-        None => false,
+        None => true,
     }
 }
 
-// The end of a route, at its target or at a wrong place.
+// The end of a route, where it arrives or at a wrong place.
 #[inline]
-fn end_of(is_own: bool) -> Hop
-    ensures { result ≡ end_if is_own }
+fn end_of(arrives: bool) -> Hop
+    ensures { result ≡ end_if arrives }
 {
-    if is_own {
+    if arrives {
         Hop::Arrive
     } else {
         Hop::Stop(Cause::Wrong)
@@ -90,7 +91,7 @@ fn hop_by_side(fabric: &Fabric, switch: usize, lid: usize, port: u8, side: Side)
     match side {
         Side::Bare => Hop::Stop(Cause::Dead),
         Side::To(next, _) => Hop::On(port, next),
-        Side::End(end) => end_of(is_of_host(fabric, lid, end)),
+        Side::End(end) => end_of(ends_at_host(fabric, lid, end)),
     }
 }
 
@@ -103,7 +104,7 @@ fn hop_by_port(fabric: &Fabric, switch: usize, lid: usize, port: Option<u8>) -> 
 {
     match port {
         None => Hop::Stop(Cause::Missing),
-        Some(0) => end_of(is_of_switch(fabric, lid, switch)),
+        Some(0) => end_of(ends_at_switch(fabric, lid, switch)),
         Some(port) => hop_by_side(fabric, switch, lid, port, fabric.side(switch, port)),
     }
 }

@@ -3,13 +3,15 @@
 //!
 //! It stands on `an_base`, `channel_graph`, `ib_net` and `ib_cells`. Its contract: `find` puts into a graph exactly the
 //! dependencies that the routes of a traffic make (`specs/Routes`), and says whether one of them stops; `witness` finds
-//! the least route that takes one channel and then another. Where routes begin and how they end (`start`, `trace`) is for
-//! who counts them.
+//! the least route that takes one channel and then another. Who sends to a LID (`audience`), where routes begin (`start`,
+//! `sender`) and how they end (`trace`) is for who counts them.
 #![tactic(auto)]
 
+pub mod audience;
 pub mod find;
 pub mod hop;
 pub mod link;
+pub mod sender;
 pub mod start;
 pub mod trace;
 pub mod traffic;

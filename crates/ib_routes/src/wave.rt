@@ -205,7 +205,7 @@ pub fn run(
     requires done_count { length done.old ≡ switch_count fabric.now }
     requires none { (switch bit : ℕ) → HasBit done.old switch bit → ⊥ }
     requires graph { IsGraphOf fabric.now graph.old }
-    ensures { (traffic : Traffic) → AreStarts fabric.now traffic block seen.old
+    ensures { (traffic : Traffic) → AreStarts fabric.now (tables_of cells.now) traffic block seen.old
         → IsWaved fabric.now (tables_of cells.now) traffic block graph.old graph.new stopped result }
 {
     let mut stops = stopped;

@@ -7,13 +7,12 @@ ghost use Rattle.ib_net.specs.Fabric.{IsFabric, switch_count};
 ghost use Rattle.ib_cells.specs.Cells.{tables_of};
 ghost use Rattle.ib_routes.specs.Found.{IsLeastWitness, channel_of};
 ghost use Rattle.ib_routes.specs.Finding.{HasNoWitness};
-ghost use Rattle.ib_routes.specs.Routes.{ComesTo};
 ghost use Rattle.ib_routes.specs.Trace.{IsReady, hop_to, way};
-ghost use Rattle.ib_routes.specs.Witness.{Comes, GoesBy, IsFirst, IsFirstSource, IsNextBy};
+ghost use Rattle.ib_routes.specs.Witness.{ComesFor, GoesBy, IsFirst, IsFirstSource, IsNextBy};
 ghost use Rattle.ib_routes.specs.Witness.{IsLesser, IsLesserOf, IsLeastAt, NoSourceTakes};
 
+use crate::audience::{Audience, audience_of, sender_start};
 use crate::hop::{Hop, Outcome, hop_at};
-use crate::start::{begins_at, is_target, sends};
 use crate::trace::{Mark, Target, trace};
 use crate::traffic::Traffic;
 use an_base::memory::OutOfMemory;
@@ -65,12 +64,12 @@ fn goes_by(fabric: &Fabric, cells: &Cells, lid: usize, channel: Spot, next: Spot
     }
 }
 
-/// Whether the route of an end port to a LID comes to a switch. The marks are those of routes to the LID that are followed
-/// until they come there, and the path is a room for the switches of a route.
+/// Whether an end port sends to a LID, by the audience of the LID, and its route comes to a switch. The marks are those of
+/// routes to the LID that are followed until they come there, and the path is a room for the switches of a route.
 pub fn comes(
     fabric: &Fabric,
     cells: &Cells,
-    traffic: Traffic,
+    audience: Audience,
     lid: usize,
     via: u32,
     marks: &mut [Mark],
@@ -84,12 +83,9 @@ pub fn comes(
     requires ready { IsReady (hop_to fabric.now (tables_of cells.now) (way lid via)) (switch_count fabric.now)
         marks.old }
     ensures ready { IsReady (hop_to fabric.now (tables_of cells.now) (way lid via)) (switch_count fabric.now) marks.new }
-    ensures comes { IsTrue result ↔ ComesTo fabric.now (tables_of cells.now) traffic lid source via }
+    ensures comes { IsTrue result ↔ ComesFor fabric.now (tables_of cells.now) audience lid via source }
 {
-    if !sends(fabric, traffic, lid, source) {
-        return false;
-    }
-    let Some(start) = begins_at(fabric, source) else {
+    let Some(start) = sender_start(fabric, audience, lid, source) else {
         return false;
     };
     let target = Target {
@@ -108,7 +104,7 @@ pub fn comes(
 fn first_host(
     fabric: &Fabric,
     cells: &Cells,
-    traffic: Traffic,
+    audience: Audience,
     lid: usize,
     via: u32,
     marks: &mut [Mark],
@@ -122,12 +118,12 @@ fn first_host(
         marks.old }
     ensures ready { IsReady (hop_to fabric.now (tables_of cells.now) (way lid via)) (switch_count fabric.now) marks.new }
     ensures first { MatchOption result
-        ((end : ℕ) → Comes fabric.now (tables_of cells.now) traffic lid via (port.Host end) → ⊥)
-        (IsFirst (λ end. Comes fabric.now (tables_of cells.now) traffic lid via (port.Host end))) }
+        ((end : ℕ) → ComesFor fabric.now (tables_of cells.now) audience lid via (port.Host end) → ⊥)
+        (IsFirst (λ end. ComesFor fabric.now (tables_of cells.now) audience lid via (port.Host end))) }
 {
     'ends: for end in 0..fabric.ends() {
         let source = EndPort::Host(end as u32);
-        if comes(fabric, cells, traffic, lid, via, marks, path, source) {
+        if comes(fabric, cells, audience, lid, via, marks, path, source) {
             return Some(end as u32);
         }
     }
@@ -138,7 +134,7 @@ fn first_host(
 fn first_switch(
     fabric: &Fabric,
     cells: &Cells,
-    traffic: Traffic,
+    audience: Audience,
     lid: usize,
     via: u32,
     marks: &mut [Mark],
@@ -151,12 +147,12 @@ fn first_switch(
     requires ready { IsReady (hop_to fabric.now (tables_of cells.now) (way lid via)) (switch_count fabric.now)
         marks.old }
     ensures { MatchOption result
-        ((switch : ℕ) → Comes fabric.now (tables_of cells.now) traffic lid via (port.Switch switch) → ⊥)
-        (IsFirst (λ switch. Comes fabric.now (tables_of cells.now) traffic lid via (port.Switch switch))) }
+        ((switch : ℕ) → ComesFor fabric.now (tables_of cells.now) audience lid via (port.Switch switch) → ⊥)
+        (IsFirst (λ switch. ComesFor fabric.now (tables_of cells.now) audience lid via (port.Switch switch))) }
 {
     'switches: for switch in 0..fabric.switches() {
         let source = EndPort::Switch(switch as u32);
-        if comes(fabric, cells, traffic, lid, via, marks, path, source) {
+        if comes(fabric, cells, audience, lid, via, marks, path, source) {
             return Some(switch as u32);
         }
     }
@@ -194,7 +190,7 @@ pub fn lesser(fabric: &Fabric, host: Option<u32>, switch: Option<u32>) -> Option
 fn first_of_all(
     fabric: &Fabric,
     cells: &Cells,
-    traffic: Traffic,
+    audience: Audience,
     lid: usize,
     via: u32,
     marks: &mut [Mark],
@@ -208,11 +204,11 @@ fn first_of_all(
         marks.old }
     requires fabric { IsFabric fabric.now }
     ensures { MatchOption result
-        ((source : EndPort) → Comes fabric.now (tables_of cells.now) traffic lid via source → ⊥)
-        (IsFirstSource fabric.now (Comes fabric.now (tables_of cells.now) traffic lid via)) }
+        ((source : EndPort) → ComesFor fabric.now (tables_of cells.now) audience lid via source → ⊥)
+        (IsFirstSource fabric.now (ComesFor fabric.now (tables_of cells.now) audience lid via)) }
 {
-    let host = first_host(fabric, cells, traffic, lid, via, marks, path);
-    let switch = first_switch(fabric, cells, traffic, lid, via, marks, path);
+    let host = first_host(fabric, cells, audience, lid, via, marks, path);
+    let switch = first_switch(fabric, cells, audience, lid, via, marks, path);
     lesser(fabric, host, switch)
 }
 
@@ -221,19 +217,19 @@ fn first_source(
     alloc: Global,
     fabric: &Fabric,
     cells: &Cells,
-    traffic: Traffic,
+    audience: Audience,
     lid: usize,
     via: u32,
 ) -> Result<Option<EndPort>, OutOfMemory>
     requires same { switch_count fabric.now ≡ cells.now.switches }
     requires lid { lid < 64 * cells.now.blocks }
     ensures { IfOk result (λ found. MatchOption found
-        ((source : EndPort) → Comes fabric.now (tables_of cells.now) traffic lid via source → ⊥)
-        (IsFirstSource fabric.now (Comes fabric.now (tables_of cells.now) traffic lid via))) }
+        ((source : EndPort) → ComesFor fabric.now (tables_of cells.now) audience lid via source → ⊥)
+        (IsFirstSource fabric.now (ComesFor fabric.now (tables_of cells.now) audience lid via))) }
 {
     let mut marks = vec![in alloc; Mark::New; fabric.switches()]?;
     let mut path = vec![in alloc; 0u32; fabric.switches()]?;
-    let found = first_of_all(fabric, cells, traffic, lid, via, &mut marks, &mut path);
+    let found = first_of_all(fabric, cells, audience, lid, via, &mut marks, &mut path);
     Ok(found)
 }
 
@@ -255,13 +251,14 @@ fn witness_at(
         (NoSourceTakes fabric.now (tables_of cells.now) traffic lid (channel_of channel) (channel_of next))
         (IsLeastAt fabric.now (tables_of cells.now) traffic lid (channel_of channel) (channel_of next))) }
 {
-    if !is_target(fabric, traffic, lid) {
-        return Ok(None);
-    }
     if !goes_by(fabric, cells, lid, channel, next) {
         return Ok(None);
     }
-    let found = first_source(alloc, fabric, cells, traffic, lid, channel.switch)?;
+    let audience = audience_of(fabric, cells, traffic, lid);
+    if let Audience::Nobody = audience {
+        return Ok(None);
+    }
+    let found = first_source(alloc, fabric, cells, audience, lid, channel.switch)?;
     Ok(found)
 }
 
@@ -284,7 +281,7 @@ pub fn find_witness(
         (λ w. IsLeastWitness fabric.now (tables_of cells.now) traffic (channel_of channel) (channel_of next)
         w.lid w.source)) }
 {
-    'lids: for lid in 0..fabric.lids() {
+    'lids: for lid in 0..64 * cells.blocks() {
         let found = witness_at(alloc, fabric, cells, traffic, lid, channel, next)?;
         if let Some(source) = found {
             let lid = lid as u16;

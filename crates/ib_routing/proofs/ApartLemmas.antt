@@ -1,16 +1,17 @@
 -- Who is not joined to whom, by the labels of switches.
 use Rattle.std.proofs.Common.{◌≡◌, ◌≢◌, ◌∙◌, sym, ap, subst, refl, ℕ, ◌<◌, inl, inr, List, Option, Some, None, arith}
-use Rattle.std.specs.Prelude.{option_and_then, slice_get, slice_index}
+use Rattle.std.specs.Prelude.{MatchOption, option_and_then, slice_get, slice_index}
 use Rattle.std.proofs.lemmas.Bool.{cases_eq}
 use Rattle.std.proofs.lemmas.Option.{slice_get-get_or, slice_get_within}
 use Rattle.ib_net.specs.declared.node.EndPort.{EndPort}
 use Rattle.ib_net.specs.declared.node.EndPort.TheVariants.{Host, Switch}
 use Rattle.ib_net.specs.Fabric.{FabricOf, IsFabric, owner_of, start_of, switch_count}
 use Rattle.ib_routes.specs.declared.traffic.Traffic.{Traffic}
-use Rattle.ib_routes.specs.Routes.{IsSource, IsTarget}
+use Rattle.ib_routes.specs.declared.traffic.Traffic.TheVariants.{Hosts, Lids, Managed, All, Rows}
+use Rattle.ib_routes.specs.Routes.{IsSource, IsTarget, MayWrite, SendsToOwner}
 use Rattle.ib_routes.proofs.StartLemmas.{source_low, start_low}
 use Rattle.ib_routing.specs.Joined.{AllJoined, AreEndsJoined, IsApart}
-use Rattle.ib_routing.specs.Parts.{AreLabels, IsOtherSource, IsOtherTarget, label_of}
+use Rattle.ib_routing.specs.Parts.{AllJoinedBy, AreLabels, IsApartBy, IsOtherSource, IsOtherTarget, label_of}
 
 -- labels that are not different are the same
 same_label : (one other : Option ℕ) → ((one ≢ other) → ⊥) → one ≡ other
@@ -31,13 +32,13 @@ pub record IsAt (fabric : FabricOf) (end : EndPort) : Type 0 where
   pub at : start_of fabric end ≡ Some switch
   pub low : switch < switch_count fabric
 
-module _ (fabric : FabricOf) (traffic : Traffic) (fits : IsFabric fabric) where
-  source_at : (source : EndPort) → IsSource fabric traffic source → IsAt fabric source
-  source_at (Host end) is = record { switch = is.0; at = is.1; low = start_low fabric fits traffic (Host end) is.0 is is.1 }
-  source_at (Switch switch) is = record { switch = switch; at = refl; low = source_low fabric traffic switch is }
+module _ (fabric : FabricOf) (from to : Traffic) (fits : IsFabric fabric) where
+  pub source_at : (source : EndPort) → IsSource fabric from source → IsAt fabric source
+  source_at (Host end) is = record { switch = is.0; at = is.1; low = start_low fabric fits from (Host end) is.0 is is.1 }
+  source_at (Switch switch) is = record { switch = switch; at = refl; low = source_low fabric from switch is }
 
-  owner_at : (lid : ℕ) (owner : EndPort) → owner_of fabric lid ≡ Some owner → IsTarget fabric traffic owner → IsAt fabric owner
-  owner_at lid (Host end) owns is = record { switch = is.0; at = is.1; low = start_low fabric fits traffic (Host end) is.0 is is.1 }
+  owner_at : (lid : ℕ) (owner : EndPort) → owner_of fabric lid ≡ Some owner → IsTarget fabric to owner → IsAt fabric owner
+  owner_at lid (Host end) owns is = record { switch = is.0; at = is.1; low = start_low fabric fits to (Host end) is.0 is is.1 }
   owner_at lid (Switch switch) owns is =
       let own = (fits.owners lid (Switch switch)).0 owns in
       record { switch = switch; at = refl; low = slice_get_within fabric.nodes.switches switch own.0 own.1 }
@@ -69,31 +70,80 @@ module _ (fabric : FabricOf) (traffic : Traffic) (fits : IsFabric fabric) where
         ∙ ap (λ (n : ℕ). let o : Option ℕ = Some n in o) ((are.same from to low far_low).1 joins)
         ∙ sym (label_is other (record { switch = to; at = at_to; low = far_low }))
 
-    apart : (lid : ℕ) (source owner : EndPort) → IsSource fabric traffic source → owner_of fabric lid ≡ Some owner → IsTarget fabric traffic owner → label_of fabric labels source ≢ label_of fabric labels owner → IsApart fabric traffic lid source
+    apart : (lid : ℕ) (source owner : EndPort) → IsSource fabric from source → owner_of fabric lid ≡ Some owner → IsTarget fabric to owner → label_of fabric labels source ≢ label_of fabric labels owner → IsApartBy fabric from to lid source
     apart lid source owner is owns target differ = (
       record { is_source = is; owner = owner; owns = owns; is_target = target; other = λ same. differ (ap (label_of fabric labels) same) },
       λ joins. differ (same_of source owner (source_at source is) (owner_at lid owner owns target) joins),
     )
 
     -- the labels of all that send and of all to which they send
-    pub no_sources : ((source : EndPort) → IsOtherSource fabric traffic labels None source → ⊥) → AllJoined fabric traffic
+    pub no_sources : ((source : EndPort) → IsOtherSource fabric from labels None source → ⊥) → AllJoinedBy fabric from to
     no_sources none lid source sends = absurd (none source (sends.is_source, λ same. (let is = label_is source (source_at source sends.is_source) in cc)))
 
-    pub no_targets : ((lid : ℕ) → IsOtherTarget fabric traffic labels None lid → ⊥) → AllJoined fabric traffic
+    pub no_targets : ((lid : ℕ) → IsOtherTarget fabric to labels None lid → ⊥) → AllJoinedBy fabric from to
     no_targets none lid source sends = absurd (none lid (sends.owner, sends.owns, sends.is_target, λ same. (let is = label_is sends.owner (owner_at lid sends.owner sends.owns sends.is_target) in cc)))
 
-    target_label : (label : Option ℕ) → ((lid : ℕ) → IsOtherTarget fabric traffic labels label lid → ⊥) → (lid : ℕ) (owner : EndPort) → owner_of fabric lid ≡ Some owner → IsTarget fabric traffic owner → label_of fabric labels owner ≡ label
+    target_label : (label : Option ℕ) → ((lid : ℕ) → IsOtherTarget fabric to labels label lid → ⊥) → (lid : ℕ) (owner : EndPort) → owner_of fabric lid ≡ Some owner → IsTarget fabric to owner → label_of fabric labels owner ≡ label
     target_label label none lid owner owns target = same_label (label_of fabric labels owner) label (λ differ. none lid (owner, owns, target, differ))
 
-    pub all_joined : (label : Option ℕ) → ((lid : ℕ) → IsOtherTarget fabric traffic labels label lid → ⊥) → ((source : EndPort) → IsOtherSource fabric traffic labels label source → ⊥) → AllJoined fabric traffic
+    pub all_joined : (label : Option ℕ) → ((lid : ℕ) → IsOtherTarget fabric to labels label lid → ⊥) → ((source : EndPort) → IsOtherSource fabric from labels label source → ⊥) → AllJoinedBy fabric from to
     all_joined label no_target no_source lid source sends =
         joined source sends.owner (source_at source sends.is_source) (owner_at lid sends.owner sends.owns sends.is_target)
         (same_label (label_of fabric labels source) label (λ differ. no_source source (sends.is_source, differ)) ∙ sym (target_label label no_target lid sends.owner sends.owns sends.is_target))
 
     -- a LID whose owner has another label than an end port that sends
-    pub target_apart : (label : Option ℕ) (lid : ℕ) (source : EndPort) → IsSource fabric traffic source → label ≡ label_of fabric labels source → IsOtherTarget fabric traffic labels label lid → IsApart fabric traffic lid source
+    pub target_apart : (label : Option ℕ) (lid : ℕ) (source : EndPort) → IsSource fabric from source → label ≡ label_of fabric labels source → IsOtherTarget fabric to labels label lid → IsApartBy fabric from to lid source
     target_apart label lid source is own (owner, owns, target, differ) = apart lid source owner is owns target (λ same. differ (sym same ∙ sym own))
 
     -- an end port that sends and has another label than the owners of all LIDs to which some do
-    pub source_apart : (label : Option ℕ) (lid : ℕ) (source : EndPort) → ((other : ℕ) → IsOtherTarget fabric traffic labels label other → ⊥) → IsOtherTarget fabric traffic labels None lid → IsOtherSource fabric traffic labels label source → IsApart fabric traffic lid source
+    pub source_apart : (label : Option ℕ) (lid : ℕ) (source : EndPort) → ((other : ℕ) → IsOtherTarget fabric to labels label other → ⊥) → IsOtherTarget fabric to labels None lid → IsOtherSource fabric from labels label source → IsApartBy fabric from to lid source
     source_apart label lid source none (owner, owns, target, some) (is, differ) = apart lid source owner is owns target (λ same. differ (same ∙ target_label label none lid owner owns target))
+
+-- by a traffic other than `Managed` each may write to all
+may_all : (traffic : Traffic) → traffic ≢ Managed → (source owner : EndPort) → MayWrite traffic source owner
+may_all Hosts other source owner = tt
+may_all Lids other source owner = tt
+may_all Managed other source owner = absurd (other refl)
+may_all All other source owner = tt
+may_all Rows other source owner = tt
+
+-- what was found, said otherwise
+pub match_option : {A None_ Other : Type 0} {Is As : A → Type 0} → (None_ → Other) → ((x : A) → Is x → As x) → (found : Option A) → MatchOption found None_ Is → MatchOption found Other As
+match_option none some None is = none is
+match_option none some (Some x) is = some x is
+
+module _ (fabric : FabricOf) where
+  pub joined_by_one : (traffic : Traffic) → AllJoinedBy fabric traffic traffic → AllJoined fabric traffic
+  joined_by_one traffic all lid source sends = all lid source (record { is_source = sends.is_source; owner = sends.owner; owns = sends.owns; is_target = sends.is_target; other = sends.other })
+
+  pub apart_by_one : (traffic : Traffic) → traffic ≢ Managed → (lid : ℕ) (source : EndPort) → IsApartBy fabric traffic traffic lid source → IsApart fabric traffic lid source
+  apart_by_one traffic other lid source (sends, not) = (
+    record { is_source = sends.is_source; owner = sends.owner; owns = sends.owns; is_target = sends.is_target; may = may_all traffic other source sends.owner; other = sends.other },
+    not,
+  )
+
+  -- by `Managed` adapters and routers send to all, and switches to these
+  joined_at : (lid : ℕ) (source owner : EndPort) → AllJoinedBy fabric Lids Lids → AllJoinedBy fabric All Hosts → IsSource fabric Managed source → owner_of fabric lid ≡ Some owner → IsTarget fabric Managed owner → MayWrite Managed source owner → source ≢ owner → AreEndsJoined fabric source owner
+  joined_at lid (Host end) (Host own) of_hosts to_hosts is owns target may other = of_hosts lid (Host end) (record { is_source = is; owner = Host own; owns = owns; is_target = target; other = other })
+  joined_at lid (Host end) (Switch own) of_hosts to_hosts is owns target may other = of_hosts lid (Host end) (record { is_source = is; owner = Switch own; owns = owns; is_target = target; other = other })
+  joined_at lid (Switch switch) (Host own) of_hosts to_hosts is owns target may other = to_hosts lid (Switch switch) (record { is_source = is; owner = Host own; owns = owns; is_target = target; other = other })
+  joined_at lid (Switch switch) (Switch own) of_hosts to_hosts is owns target may other = absurd may
+
+  pub joined_managed : AllJoinedBy fabric Lids Lids → AllJoinedBy fabric All Hosts → AllJoined fabric Managed
+  joined_managed of_hosts to_hosts lid source sends = joined_at lid source sends.owner of_hosts to_hosts sends.is_source sends.owns sends.is_target sends.may sends.other
+
+  of_host : (lid : ℕ) (source owner : EndPort) → IsSource fabric Lids source → owner_of fabric lid ≡ Some owner → IsTarget fabric Lids owner → source ≢ owner → (AreEndsJoined fabric source owner → ⊥) → IsApart fabric Managed lid source
+  of_host lid (Host end) (Host own) is owns target other not = (record { is_source = is; owner = Host own; owns = owns; is_target = target; may = tt; other = other }, not)
+  of_host lid (Host end) (Switch own) is owns target other not = (record { is_source = is; owner = Switch own; owns = owns; is_target = target; may = tt; other = other }, not)
+  of_host lid (Switch switch) owner is owns target other not = absurd is
+
+  pub apart_of_host : (lid : ℕ) (source : EndPort) → IsApartBy fabric Lids Lids lid source → IsApart fabric Managed lid source
+  apart_of_host lid source (sends, not) = of_host lid source sends.owner sends.is_source sends.owns sends.is_target sends.other not
+
+  to_host : (lid : ℕ) (source owner : EndPort) → IsSource fabric All source → owner_of fabric lid ≡ Some owner → IsTarget fabric Hosts owner → source ≢ owner → (AreEndsJoined fabric source owner → ⊥) → IsApart fabric Managed lid source
+  to_host lid (Host end) (Host own) is owns target other not = (record { is_source = is; owner = Host own; owns = owns; is_target = target; may = tt; other = other }, not)
+  to_host lid (Switch switch) (Host own) is owns target other not = (record { is_source = is; owner = Host own; owns = owns; is_target = target; may = tt; other = other }, not)
+  to_host lid source (Switch own) is owns target other not = absurd target
+
+  pub apart_to_host : (lid : ℕ) (source : EndPort) → IsApartBy fabric All Hosts lid source → IsApart fabric Managed lid source
+  apart_to_host lid source (sends, not) = to_host lid source sends.owner sends.is_source sends.owns sends.is_target sends.other not

@@ -1,3 +1,4 @@
 mod JoinLemmas
 mod ApartLemmas
 mod ArriveLemmas
+mod NoSwitchLemmas

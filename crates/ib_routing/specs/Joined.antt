@@ -6,7 +6,7 @@ use Rattle.ib_net.specs.declared.node.EndPort.{EndPort}
 use Rattle.ib_net.specs.declared.node.Side.TheVariants.{To}
 use Rattle.ib_net.specs.Fabric.{FabricOf, side_of, start_of, switch_count}
 use Rattle.ib_routes.specs.declared.traffic.Traffic.{Traffic}
-use Rattle.ib_routes.specs.Routes.{Sends}
+use Rattle.ib_routes.specs.Routes.{SendsToOwner}
 
 -- a port of a switch leads to another switch
 abbrev pub LeadsTo : FabricOf → ℕ → ℕ → Type 0
@@ -30,9 +30,9 @@ AreEndsJoined fabric one other =
 -- each end port that sends to a LID is joined to its owner
 abbrev pub AllJoined : FabricOf → Traffic → Type 0
 AllJoined fabric traffic =
-    (lid : ℕ) (source : EndPort) (sends : Sends fabric traffic lid source) → AreEndsJoined fabric source sends.owner
+    (lid : ℕ) (source : EndPort) (sends : SendsToOwner fabric traffic lid source) → AreEndsJoined fabric source sends.owner
 
 -- an end port sends to a LID, and is not joined to its owner
 abbrev pub IsApart : FabricOf → Traffic → ℕ → EndPort → Type 0
 IsApart fabric traffic lid source =
-    (sends : Sends fabric traffic lid source) × (AreEndsJoined fabric source sends.owner → ⊥)
+    (sends : SendsToOwner fabric traffic lid source) × (AreEndsJoined fabric source sends.owner → ⊥)

@@ -7,7 +7,7 @@ use Rattle.ib_net.specs.declared.node.Side.TheVariants.{To}
 use Rattle.ib_net.specs.Fabric.{FabricOf, owner_of, side_of, start_of, switch_count}
 use Rattle.ib_routes.specs.declared.traffic.Traffic.{Traffic}
 use Rattle.ib_routes.specs.Routes.{IsSource, IsTarget}
-use Rattle.ib_routing.specs.Joined.{AreJoined}
+use Rattle.ib_routing.specs.Joined.{AreEndsJoined, AreJoined}
 
 -- a label after one of these took the place of the other
 abbrev pub renamed : (from to label : ℕ) → ℕ
@@ -40,6 +40,23 @@ pub record AreLabels (fabric : FabricOf) (labels : List ℕ) : Type 0 where
   pub same :
       (one other : ℕ) → one < switch_count fabric → other < switch_count fabric
       → ((slice_index labels one ≡ slice_index labels other) ↔ AreJoined fabric one other)
+
+-- an end port that sends by one traffic, and a LID of another one to which some send by another
+pub record SendsBy (fabric : FabricOf) (from to : Traffic) (lid : ℕ) (source : EndPort) : Type 0 where
+  pub is_source : IsSource fabric from source
+  pub owner : EndPort
+  pub owns : owner_of fabric lid ≡ Some owner
+  pub is_target : IsTarget fabric to owner
+  pub other : source ≢ owner
+
+-- all these are joined, and one is not
+abbrev pub AllJoinedBy : FabricOf → (from to : Traffic) → Type 0
+AllJoinedBy fabric from to =
+    (lid : ℕ) (source : EndPort) (sends : SendsBy fabric from to lid source) → AreEndsJoined fabric source sends.owner
+
+abbrev pub IsApartBy : FabricOf → (from to : Traffic) → ℕ → EndPort → Type 0
+IsApartBy fabric from to lid source =
+    (sends : SendsBy fabric from to lid source) × (AreEndsJoined fabric source sends.owner → ⊥)
 
 -- the label of the switch of an end port
 abbrev pub label_of : FabricOf → List ℕ → EndPort → Option ℕ

@@ -1,12 +1,12 @@
 -- What `route` gives, and the answer to its call.
 
-use Rattle.std.specs.Prelude.{◌≡◌, ℕ, List, [], ◌∷◌, codes}
+use Rattle.std.specs.Prelude.{◌≡◌, ◌≢◌, ℕ, List, [], ◌∷◌, codes}
 use Rattle.std.specs.Fmt.{decimal}
 use Rattle.outside.specs.Told.{Seen, Failed, Gains, GainsFront, IsKept}
 use Rattle.text_lines.specs.Lines.{line_text}
 use Rattle.calling.specs.Ended.{IsLineTold}
 use Rattle.ib_net.specs.declared.node.EndPort.{EndPort}
-use Rattle.ib_net.specs.Fabric.{FabricOf, guid_of}
+use Rattle.ib_net.specs.Fabric.{FabricOf, guid_of, switch_count}
 use Rattle.ib_cells.specs.Cells.{TablesOf}
 use Rattle.ib_routes.specs.declared.traffic.Traffic.{Traffic}
 use Rattle.ib_verdict.specs.Verdict.{Passes}
@@ -19,6 +19,7 @@ use Rattle.ib_answering.specs.Status.{IsToldOf}
 use Rattle.ib_routing.specs.declared.end.End.{End}
 use Rattle.ib_routing.specs.declared.end.End.TheVariants.{Routed, NotJoined, NoTables}
 use Rattle.ib_routing.specs.Joined.{AllJoined, IsApart}
+use Rattle.ib_routing.specs.Measured.{AreMeasures}
 
 -- the bytes are the text of tables that pass: there is no credit loop, and each route of the traffic arrives
 pub record AreRouted (traffic : Traffic) (fabric : FabricOf) (written : List ℕ) : Type 0 where
@@ -42,17 +43,18 @@ apart_words guid lid =
 abbrev pub none_words : List (List ℕ)
 none_words = codes "fabric:" ∷ codes "no" ∷ codes "tables" ∷ codes "found" ∷ []
 
--- What is given for a fabric, the text for out and the line for err: tables that pass, with numbers of which nothing is
--- claimed; an end port and a LID to which it sends that no links join; or nothing, if all are joined.
+-- What is given for a fabric, the text for out and the line for err: tables that pass, with their measures; an end port and a LID to which it sends that no links join; or nothing, if all are joined, and there are
+-- switches.
 abbrev pub IsGiven : Traffic → FabricOf → End → (written line : List ℕ) → Type 0
 IsGiven traffic fabric Routed written line =
-    AreRouted traffic fabric written × ((measures : Measures) × (line ≡ line_text (measure_words measures)))
+    (routed : AreRouted traffic fabric written)
+    × ((of : Measures) × AreMeasures fabric routed.tables of × (line ≡ line_text (measure_words of)))
 IsGiven traffic fabric NotJoined written line =
     (written ≡ [])
     × ((lid : ℕ) × (source : EndPort) × IsApart fabric traffic lid source
     × (line ≡ line_text (apart_words (guid_of fabric source) lid)))
 IsGiven traffic fabric NoTables written line =
-    (written ≡ []) × AllJoined fabric traffic × (line ≡ line_text none_words)
+    (written ≡ []) × AllJoined fabric traffic × (switch_count fabric ≢ 0) × (line ≡ line_text none_words)
 
 -- the number with which the call ends
 abbrev pub code_of : End → ℕ
@@ -86,7 +88,7 @@ pub record IsCutOff (traffic : Traffic) (topology topology' out out' err err' : 
   pub failed : Failed out out'
   pub told : IsToldOf err err' WriteFault answer
 
--- there is no fabric, or memory is wanting
+-- there is no fabric, or it is out of memory
 pub record IsStopped (topology topology' out out' err err' : Seen) (answer : ℕ) : Type 0 where
   pub status : Status
   pub none : IsNoFabric topology topology' status

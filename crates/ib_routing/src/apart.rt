@@ -4,8 +4,9 @@ ghost use Rattle.std.specs.Prelude.{◌≡◌, ◌↔◌, ℕ, IfOk, IsTrue, Mat
 ghost use Rattle.ib_net.specs.declared.node.EndPort.{EndPort};
 ghost use Rattle.ib_net.specs.declared.node.EndPort.TheVariants as port;
 ghost use Rattle.ib_net.specs.Fabric.{IsFabric};
+ghost use Rattle.ib_routes.specs.declared.traffic.Traffic.TheVariants.{Managed};
 ghost use Rattle.ib_routing.specs.Joined.{AllJoined, IsApart};
-ghost use Rattle.ib_routing.specs.Parts.{AreLabels, IsOtherSource, IsOtherTarget, label_of};
+ghost use Rattle.ib_routing.specs.Parts.{AllJoinedBy, AreLabels, IsApartBy, IsOtherSource, IsOtherTarget, label_of};
 
 use crate::parts::labels_of;
 use an_base::memory::OutOfMemory;
@@ -34,23 +35,50 @@ pub fn find_apart(
         (λ pair. IsApart fabric.now traffic pair.lid pair.source)) }
 {
     let labels = labels_of(alloc, fabric)?;
-    Ok(find_pair(fabric, traffic, &labels))
+    Ok(find_for(fabric, traffic, &labels))
 }
 
-// The same by the labels of switches: all are to have the label of the first end port that sends.
-fn find_pair(fabric: &Fabric, traffic: Traffic, labels: &[u32]) -> Option<Pair>
+// The same by the labels of switches.
+fn find_for(fabric: &Fabric, traffic: Traffic, labels: &[u32]) -> Option<Pair>
     requires fabric { IsFabric fabric.now }
     requires labels { AreLabels fabric.now labels.now }
     ensures { MatchOption result (AllJoined fabric.now traffic)
         (λ pair. IsApart fabric.now traffic pair.lid pair.source) }
 {
-    let first = find_source(fabric, traffic, labels, None)?;
+    match traffic {
+        Traffic::Managed => find_managed(fabric, labels),
+        _ => find_pair(fabric, traffic, traffic, labels),
+    }
+}
+
+// The same by `Managed`: adapters and routers send to all, and switches to these.
+fn find_managed(fabric: &Fabric, labels: &[u32]) -> Option<Pair>
+    requires fabric { IsFabric fabric.now }
+    requires labels { AreLabels fabric.now labels.now }
+    ensures { MatchOption result (AllJoined fabric.now Managed)
+        (λ pair. IsApart fabric.now Managed pair.lid pair.source) }
+{
+    match find_pair(fabric, Traffic::Lids, Traffic::Lids, labels) {
+        Some(pair) => Some(pair),
+        None => find_pair(fabric, Traffic::All, Traffic::Hosts, labels),
+    }
+}
+
+// An end port that sends by one traffic, and a LID to which some send by another, that are not joined: all are to have
+// the label of the first end port that sends.
+fn find_pair(fabric: &Fabric, from: Traffic, to: Traffic, labels: &[u32]) -> Option<Pair>
+    requires fabric { IsFabric fabric.now }
+    requires labels { AreLabels fabric.now labels.now }
+    ensures { MatchOption result (AllJoinedBy fabric.now from to)
+        (λ pair. IsApartBy fabric.now from to pair.lid pair.source) }
+{
+    let first = find_source(fabric, from, labels, None)?;
     let label = label_of(fabric, labels, first);
-    if let Some(lid) = find_target(fabric, traffic, labels, label) {
+    if let Some(lid) = find_target(fabric, to, labels, label) {
         return Some(Pair { source: first, lid });
     }
-    let lid = find_target(fabric, traffic, labels, None)?;
-    let source = find_source(fabric, traffic, labels, label)?;
+    let lid = find_target(fabric, to, labels, None)?;
+    let source = find_source(fabric, from, labels, label)?;
     Some(Pair { source, lid })
 }
 

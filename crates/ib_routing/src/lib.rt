@@ -10,5 +10,6 @@
 pub mod apart;
 pub mod end;
 pub mod law;
+pub mod measured;
 mod parts;
 pub mod route;

@@ -1,12 +1,14 @@
 //! The call of `route`.
 
-ghost use Rattle.std.specs.Prelude.{◌≡◌, ℕ, List, true, IfOk, IfErr};
+ghost use Rattle.std.specs.Prelude.{◌≡◌, ◌≢◌, ℕ, List, true, false, IfOk, IfErr, MatchOption};
+ghost use Rattle.channel_graph.specs.Cycles.{HasNoCycle};
 ghost use Rattle.ib_cells.specs.Cells.{TablesOf};
 ghost use Rattle.ib_laying.specs.Made.{AreTablesFor};
-ghost use Rattle.ib_net.specs.Fabric.{FabricOf};
+ghost use Rattle.ib_net.specs.Fabric.{FabricOf, IsFabric, switch_count};
+ghost use Rattle.ib_routes.specs.Routes.{DependsOn};
 ghost use Rattle.ib_routes.specs.declared.traffic.Traffic.{Traffic};
 ghost use Rattle.ib_verdict.specs.Judgements.{IsJudgement};
-ghost use Rattle.ib_verdict.specs.Verdict.{Passes};
+ghost use Rattle.ib_verdict.specs.Verdict.{AllArrive, Passes};
 ghost use Rattle.ib_answering.specs.Answer.{IsNoFabric};
 ghost use Rattle.ib_routing.specs.declared.end.End.{End};
 ghost use Rattle.ib_routing.specs.Joined.{AllJoined, IsApart};
@@ -14,15 +16,19 @@ ghost use Rattle.ib_routing.specs.Routed.{IsGiven, IsGivenFor, IsRouteAnswer};
 
 use crate::apart::{Pair, find_apart};
 use crate::end::{End, apart_line, measure_line, none_line};
+use crate::measured::measured;
 use an_base::memory::OutOfMemory;
 use calling::end::tell;
 use ib_answering::input::read_topology;
 use ib_answering::status::{Status, finish};
+use ib_cells::cells::Cells;
 use ib_laying::choice::{Made, lay_tables};
+use ib_laying::measures::Measures;
 use ib_net::fabric::Fabric;
 use ib_routes::traffic::Traffic;
 use ib_tables_text::printer::print;
 use ib_verdict::judge::{Judgement, judge};
+use ib_verdict::law::one_answer;
 use ib_verdict::verdict::Verdict;
 use outside::all::write_all;
 use outside::sink::Sink;
@@ -41,9 +47,9 @@ pub struct Given {
 }
 
 /// Answers `route`: reads a topology from its source to the end and makes tables for its fabric. Tables that
-/// pass for the traffic are written to out, with a line on err that says how good they are. If there are
-/// none, out gains nothing, and the line says who is not joined to whom, or that no tables were found
-/// although all are joined. If the source is wrong, out is left alone, and the line says why. The answer is
+/// pass for the traffic are written to out, with a line on err that says how good they are: empty ones if there
+/// are no switches. If there are none, out gains nothing, and the line says who is not joined to whom, or that
+/// no tables were found although all are joined. If the source is wrong, out is left alone, and the line says why. The answer is
 /// the number of how the call ended.
 pub fn route<T: Source, O: Sink, E: Sink>(
     alloc: Global,
@@ -84,11 +90,30 @@ pub fn given_for(alloc: Global, fabric: &Fabric, traffic: Traffic) -> Result<Giv
 {
     match find_apart(alloc, fabric, traffic)? {
         Some(pair) => given_apart(alloc, fabric, traffic, pair),
-        None => match lay_tables(alloc, fabric, traffic)? {
+        None => match make_tables(alloc, fabric, traffic)? {
             Some(made) => given_made(alloc, fabric, traffic, &made),
             None => given_none(alloc, fabric, traffic),
         },
     }
+}
+
+// Tables for a fabric, if some are found. If there are no switches they are empty.
+fn make_tables(
+    alloc: Global,
+    fabric: &Fabric,
+    traffic: Traffic,
+) -> Result<Option<Made>, OutOfMemory>
+    ensures made { IfOk result (λ found. MatchOption found (switch_count fabric.now ≢ 0)
+        (λ made. AreTablesFor fabric.now made.cells)) }
+    ensures fabric { IfOk result (λ _. IsFabric fabric.now) }
+{
+    if fabric.switches() > 0 {
+        return lay_tables(alloc, fabric, traffic);
+    }
+    Ok(Some(Made {
+        cells: Cells::new(alloc, 0, fabric.lids())?,
+        measures: Measures::NONE,
+    }))
 }
 
 // What is given if links do not join an end port to a LID.
@@ -110,7 +135,8 @@ fn given_apart(
 
 // What is given if no tables were found.
 fn given_none(alloc: Global, fabric: &Fabric, traffic: Traffic) -> Result<Given, OutOfMemory>
-    requires { AllJoined fabric.now traffic }
+    requires joined { AllJoined fabric.now traffic }
+    requires some { switch_count fabric.now ≢ 0 }
     ensures { IfOk result (λ given. IsGiven traffic fabric.now given.end given.text.items given.line.items) }
 {
     Ok(Given {
@@ -120,7 +146,7 @@ fn given_none(alloc: Global, fabric: &Fabric, traffic: Traffic) -> Result<Given,
     })
 }
 
-// What is given if tables were made: these, if they pass. A fabric without switches has no tables.
+// What is given if tables were made: these, if they pass, as those of a fabric without switches do.
 fn given_made(
     alloc: Global,
     fabric: &Fabric,
@@ -129,25 +155,30 @@ fn given_made(
 ) -> Result<Given, OutOfMemory>
     requires joined { AllJoined fabric.now traffic }
     requires tables { AreTablesFor fabric.now made.now.cells }
+    requires fabric { IsFabric fabric.now }
     ensures { IfOk result (λ given. IsGiven traffic fabric.now given.end given.text.items given.line.items) }
 {
     let judged = judge(alloc, fabric, &made.cells, traffic)?;
-    if fabric.switches() == 0 || !passes(&judged) {
+    if !passes(&judged) {
         return given_none(alloc, fabric, traffic);
     }
     Ok(Given {
         end: End::Routed,
         text: print(alloc, fabric, &made.cells)?,
-        line: measure_line(alloc, made.measures)?,
+        line: measure_line(alloc, measured(alloc, fabric, &made.cells, made.measures)?)?,
     })
 }
 
 // Whether tables pass that were judged.
 fn passes(judged: &Judgement) -> bool
-    ensures { (fabric : FabricOf) (tables : TablesOf) (traffic : Traffic)
+    ensures yes { (fabric : FabricOf) (tables : TablesOf) (traffic : Traffic)
         → IsJudgement fabric tables traffic judged.now → result ≡ true
         → (ranks : List ℕ) × Passes fabric tables traffic ranks }
+    ensures no { (fabric : FabricOf) (tables : TablesOf) (traffic : Traffic)
+        → IsJudgement fabric tables traffic judged.now → result ≡ false
+        → HasNoCycle (DependsOn fabric tables traffic) → ¬ AllArrive fabric tables traffic }
 {
+    one_answer();
     match &judged.verdict {
         Verdict::Ranks { ranks: _ } => !judged.stops,
         Verdict::Cycle { channels: _ } => false,

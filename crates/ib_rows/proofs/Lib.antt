@@ -2,3 +2,4 @@ pub mod RowLemmas
 pub mod BlockLemmas
 pub mod SelectLemmas
 mod SameLemmas
+mod InUseLemmas

@@ -148,7 +148,7 @@ one_source t (port.Switch switch) (port.Switch other) p at too =
     ap port.Switch same
 
 -- end ports are the same, or are not
-end_cases : (a b : EndPort) → ((a ≡ b) × (is_end a b ≡ true)) ⊎ ((a ≢ b) × (is_end a b ≡ false))
+pub end_cases : (a b : EndPort) → ((a ≡ b) × (is_end a b ≡ true)) ⊎ ((a ≢ b) × (is_end a b ≡ false))
 end_cases (port.Host end) (port.Host other) = elim (cases_eq end other) [
   | inl same ↦ inl (ap port.Host same, is_same end other same)
   | inr differs ↦ inr (λ is. differs (cc), is_other end other differs)
@@ -166,11 +166,26 @@ levels_within t source p lid at within =
     let b : ltb lid (64 * t.blocks) ≡ true = grind (arith, nat_tests) in
     ap (levels_at t lid) at ∙ ap (λ (c : Bool). cond c (levels_here t p lid) 0) b
 
-levels_past : (t : LevelRowsOf) (lid : ℕ) (o : Option ℕ) → 64 * t.blocks ≤ lid → levels_at t lid o ≡ 0
+pub levels_past : (t : LevelRowsOf) (lid : ℕ) (o : Option ℕ) → 64 * t.blocks ≤ lid → levels_at t lid o ≡ 0
 levels_past t lid None past = refl
 levels_past t lid (Some p) past =
     let b : ltb lid (64 * t.blocks) ≡ false = grind (arith, nat_tests) in
     ap (λ (c : Bool). cond c (levels_here t p lid) 0) b
+
+-- an end port that has no place sends with no level
+pub levels_outside : (t : LevelRowsOf) (source : EndPort) (lid : ℕ) → (IsPlaced t source → ⊥) → told_levels t source lid ≡ 0
+levels_outside t (port.Host end) lid none = elim (cases_lt end t.ends) [
+  | inl low ↦ absurd (none low)
+  | inr past ↦ (
+      let b : ltb end t.ends ≡ false = grind (arith, nat_tests) in
+      ap (λ (c : Bool). levels_at t lid (cond c (Some end) None)) b)
+]
+levels_outside t (port.Switch switch) lid none = elim (cases_lt switch t.switches) [
+  | inl low ↦ absurd (none low)
+  | inr past ↦ (
+      let b : ltb switch t.switches ≡ false = grind (arith, nat_tests) in
+      ap (λ (c : Bool). levels_at t lid (cond c (Some (t.ends + switch)) None)) b)
+]
 
 -- one level more of the end port that is told of
 module _ (old : LevelRowsOf) (size : length old.row ≡ 64 * old.blocks) (source : EndPort) (place lid level : ℕ) (at : place_of_source old source ≡ Some place) (now : old.current ≡ place) (low : lid < 64 * old.blocks) where

@@ -1,3 +1,4 @@
 pub mod Lanes
 pub mod PathLevels
 pub mod Levels
+pub mod InUse

@@ -4,7 +4,7 @@ ghost use Rattle.std.specs.Prelude.{◌≡◌, ◌<◌, ◌≤◌, ◌^◌, ◌+
 ghost use Rattle.std.specs.Prelude.{slice_index, take, drop, IfOk, IfSome, IsTrue, None, Some, OnOk};
 ghost use Rattle.std.specs.Int.{bit_at};
 ghost use Rattle.ib_net.specs.declared.node.EndPort.{EndPort};
-ghost use Rattle.ib_rows.specs.Levels.{levels_of};
+ghost use Rattle.ib_rows.specs.Levels.{filled, levels_of};
 ghost use Rattle.ib_rows.specs.PathLevels.{AreLevelsBelow, AreBlocksOf, AreOthersSame, ArePlaces, HasBlockAt, IsLevelAdded};
 ghost use Rattle.ib_rows.specs.PathLevels.{HaveSameLevels, IsPlaced, KeepsBlocks, ReadsBlocks};
 ghost use Rattle.ib_rows.specs.PathLevels.{SaysAsMuch, block_word, told_levels, place_of_source, stored_at};
@@ -70,6 +70,8 @@ pub enum Levels {
     Same(u16),
     /// With those that were told of an end port and a LID; if none was told, with none.
     Told(LevelRows),
+    /// With those that were told; if none was told, with this one, one of 0 to 15.
+    Filled(LevelRows, u8),
 }
 
 // So many places of no block.
@@ -298,6 +300,14 @@ impl LevelRows {
         Ok(())
     }
 
+    /// One more than the greatest LID for which there is room.
+    pub fn lids(&self) -> usize
+        ensures lids { result ≡ 64 * self.now.blocks }
+        ensures most { result ≤ 2 ^ 16 }
+    {
+        64 * self.blocks
+    }
+
     /// One more than the greatest level that was told, 0 if none was.
     pub fn count(&self) -> usize
         ensures most { result ≤ 16 }
@@ -339,6 +349,17 @@ fn levels_in(levels: u16) -> usize
     count
 }
 
+// The levels of a pair, or the one of silent pairs if it has none; no level above 15 is one.
+#[inline]
+fn filled(levels: u16, silent: u8) -> u16
+    ensures { result ≡ filled levels silent }
+{
+    if levels == 0 && silent < 16 {
+        return 1u16 << silent;
+    }
+    levels
+}
+
 impl Levels {
     /// One more than the greatest level with which an end port may send, 0 if there is none.
     pub fn count(&self) -> usize
@@ -348,6 +369,7 @@ impl Levels {
         match self {
             Levels::Same(levels) => levels_in(*levels),
             Levels::Told(told) => told.count(),
+            Levels::Filled(told, level) => told.count().max(levels_in(filled(0, *level))),
         }
     }
 
@@ -359,6 +381,7 @@ impl Levels {
         match self {
             Levels::Same(levels) => *levels,
             Levels::Told(told) => told.levels(source, lid),
+            Levels::Filled(told, level) => filled(told.levels(source, lid), *level),
         }
     }
 
@@ -369,6 +392,7 @@ impl Levels {
         match self {
             Levels::Same(_) => true,
             Levels::Told(told) => told.are_same(one, other, block),
+            Levels::Filled(told, _) => told.are_same(one, other, block),
         }
     }
 }

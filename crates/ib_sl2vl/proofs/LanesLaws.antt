@@ -1,24 +1,18 @@
 -- Texts of lanes: each is that of one assignment, or has one first fault.
-use Rattle.std.proofs.Common.{◌≡◌, ◌∙◌, sym, ap, refl, ℕ, ◌⊎◌, inl, inr, List}
+use Rattle.std.proofs.Common.{◌≡◌, ◌∙◌, sym, ap, refl, ℕ, ◌⊎◌, inl, inr, Bool, true, false, List}
 use Rattle.ib_net.specs.Fabric.{FabricOf}
 use Rattle.ib_rows.specs.Lanes.{LanesOf, lanes_by}
 use Rattle.ib_words.specs.declared.lane_cause.LaneCause.{LaneCause}
 use Rattle.ib_words.specs.declared.lane_cause.LaneCause.TheVariants.{NoEnd}
 use Rattle.ib_reader.proofs.TextLaws as laws
-use Rattle.ib_sl2vl.specs.declared.reading.Part.{Part}
-use Rattle.ib_sl2vl.specs.declared.reading.Part.TheVariants.{Start, Between, Switch, SwitchRows, Adapter, AdapterRows}
-use Rattle.ib_sl2vl.specs.Lanes.{IsEnded, IsLanesFault, IsLanesText, Told, none_told, told_after}
+use Rattle.ib_sl2vl.specs.Lanes.{IsEnded, IsLanesFault, IsLanesText, Told, may_end, none_told, told_after}
 
-ended_at : (part : Part) → (part ≡ Between) ⊎ (¬ (part ≡ Between))
-ended_at Start = inr (λ is. absurd (cc))
-ended_at Between = inl refl
-ended_at (Switch switch) = inr (λ is. absurd (cc))
-ended_at (SwitchRows switch) = inr (λ is. absurd (cc))
-ended_at Adapter = inr (λ is. absurd (cc))
-ended_at AdapterRows = inr (λ is. absurd (cc))
+is_or : (b : Bool) → (b ≡ true) ⊎ (¬ (b ≡ true))
+is_or true = inl refl
+is_or false = inr (λ is. absurd (cc))
 
 ended_or : (told : Told) → IsEnded told ⊎ (¬ IsEnded told)
-ended_or told = ended_at told.part
+ended_or told = is_or (may_end told.part)
 
 module _ (fabric : FabricOf) (bytes : List ℕ) where
   pub one_text : (lanes others : LanesOf) → IsLanesText fabric bytes lanes → IsLanesText fabric bytes others → lanes ≡ others

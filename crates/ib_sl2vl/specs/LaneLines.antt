@@ -1,9 +1,10 @@
 -- The lines of which texts of lanes consist, and what each says.
-use Rattle.std.specs.Prelude.{◌==◌, ◌+◌, ◌*◌, ℕ, List, [], ◌∷◌, length, codes, if◌then◌else◌}
+use Rattle.std.specs.Prelude.{◌==◌, ◌||◌, ◌+◌, ◌*◌, ℕ, Bool, List, [], ◌∷◌, length, map, codes, if◌then◌else◌}
 use Rattle.std.specs.Prelude.{Option, Some, None, Result, Ok, Err}
+use Rattle.std.specs.Option.{option_map_or}
 use Rattle.std.specs.Str.{bytes_eq}
 use Rattle.text_lines.specs.Lines.{words_of}
-use Rattle.ib_words.specs.Cuts.{begins, ◌>>=◌}
+use Rattle.ib_words.specs.Cuts.{after, begins, cut, ◌>>=◌}
 use Rattle.ib_words.specs.Digits.{number_to}
 use Rattle.ib_words.specs.Heads.{node_head}
 use Rattle.ib_words.specs.Says.{or_cause, unless_long}
@@ -11,7 +12,7 @@ use Rattle.ib_words.specs.declared.head.NodeHead.{NodeHead}
 use Rattle.ib_words.specs.declared.lane_cause.LaneCause.{LaneCause}
 use Rattle.ib_words.specs.declared.lane_cause.LaneCause.TheVariants.{LineTooLong, UnknownLine, BadRow}
 use Rattle.ib_sl2vl.specs.declared.line.LaneLine.{LaneLine}
-use Rattle.ib_sl2vl.specs.declared.line.LaneLine.TheVariants.{Nothing, Dashes, Head, Row}
+use Rattle.ib_sl2vl.specs.declared.line.LaneLine.TheVariants.{Nothing, Dashes, Head, Asked, Row}
 
 -- what a line says, or the cause why it says nothing
 abbrev pub Said : Type 0
@@ -54,8 +55,37 @@ abbrev pub said_or_head : List (List ℕ) → Option NodeHead → Said
 said_or_head words None = said_by words
 said_or_head words (Some head) = Ok (Head head)
 
--- what a line says: dashes begin and end rows, and any other line that begins with `#` has no words
+-- the LID at the front of a text, up to a space or the end
+unfoldable pub front_lid : List ℕ → Option ℕ
+front_lid text = option_map_or (λ parts. number_to 0xFFFF parts.0) (cut 32 text) (number_to 0xFFFF text)
+
+-- the LID in the head of what `smpquery sl2vl` prints: `# SL2VL table: Lid 3`
+unfoldable pub asked_lid : List ℕ → Option ℕ
+asked_lid line = after (codes "# SL2VL table: Lid ") line >>= front_lid
+
+-- the head with it; one that names the node otherwise is none
+abbrev pub asked_head : Option ℕ → Said
+asked_head None = Err UnknownLine
+asked_head (Some lid) = Ok (Asked lid)
+
+-- a row that it prints, with spaces in the places of its colons, commas and bars
+abbrev pub is_parting : ℕ → Bool
+is_parting byte = byte == 58 || (byte == 44 || byte == 124)
+
+abbrev pub spaced : List ℕ → List ℕ
+spaced line = map (λ byte. if is_parting byte then 32 else byte) line
+
+-- the words of `ports: in  0, out  1: | 0| 1| .. |15|`
+abbrev pub asked_row : List (List ℕ) → Said
+asked_row (ports ∷ into ∷ entry ∷ out ∷ port ∷ lanes) = row_said entry port lanes
+asked_row words = Err UnknownLine
+
+-- What a line says. Dashes begin and end rows, and any other line that begins with `#` has no words, but for the
+-- head of what `smpquery sl2vl` prints.
 unfoldable pub said_in : List ℕ → Said
 said_in line =
     unless_long line LineTooLong
-    (if begins (codes "#-") line then Ok Dashes else said_or_head (words_of line) (node_head line))
+    (if begins (codes "#-") line then Ok Dashes
+    else if begins (codes "# SL2VL table:") line then asked_head (asked_lid line)
+    else if begins (codes "ports: in ") line then asked_row (words_of (spaced line))
+    else said_or_head (words_of line) (node_head line))

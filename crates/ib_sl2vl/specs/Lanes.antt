@@ -2,7 +2,9 @@
 use Rattle.std.specs.Prelude.{◌≡◌, ◌<◌, ◌==◌, ◌||◌, ℕ, Bool, true, false, List, length, Option, Some, None, Result}
 use Rattle.std.specs.Prelude.{Ok, Err}
 use Rattle.std.specs.Prelude.{if◌then◌else◌, nat_lt}
-use Rattle.ib_net.specs.Fabric.{FabricOf, ports_of, switch_with}
+use Rattle.ib_net.specs.Fabric.{FabricOf, owner_of, ports_of, switch_with}
+use Rattle.ib_net.specs.declared.node.EndPort.{EndPort}
+use Rattle.ib_net.specs.declared.node.EndPort.TheVariants as port
 use Rattle.ib_rows.specs.Lanes.{LanesOf, RowsOf, lanes_by, with_row}
 use Rattle.std.proofs.Common.{ap}
 use Rattle.text_lines.specs.Chains.{IsFaultOf}
@@ -16,10 +18,10 @@ use Rattle.ib_words.specs.declared.lane_cause.LaneCause.TheVariants.{UnknownSwit
 use Rattle.ib_words.specs.declared.lane_cause.LaneCause.TheVariants.{LineTooLong, NoEnd}
 use Rattle.ib_words.specs.declared.lane_cause.LaneCause.TheVariants.{LanesDiffer}
 use Rattle.ib_sl2vl.specs.declared.line.LaneLine.{LaneLine}
-use Rattle.ib_sl2vl.specs.declared.line.LaneLine.TheVariants.{Nothing, Dashes, Head, Row}
+use Rattle.ib_sl2vl.specs.declared.line.LaneLine.TheVariants.{Nothing, Dashes, Head, Asked as AskedLine, Row}
 use Rattle.ib_sl2vl.specs.declared.reading.Part.{Part}
 use Rattle.ib_sl2vl.specs.declared.reading.Part.TheVariants.{Start, Between, Switch, SwitchRows}
-use Rattle.ib_sl2vl.specs.declared.reading.Part.TheVariants.{Adapter, AdapterRows}
+use Rattle.ib_sl2vl.specs.declared.reading.Part.TheVariants.{Adapter, AdapterRows, Asked}
 use Rattle.ib_sl2vl.specs.LaneLines.{said_in}
 
 -- what lines say so far: in which part of the text the next one stands, and the rows
@@ -49,6 +51,7 @@ after_dashes (SwitchRows switch) = Ok Between
 after_dashes AdapterRows = Ok Between
 after_dashes Start = Err OutOfPlace
 after_dashes Between = Err OutOfPlace
+after_dashes (Asked switch) = Err OutOfPlace
 
 abbrev pub dashes_told : Told → Step
 dashes_told told = and_then (after_dashes told.part) (λ part. Ok (at_part told part))
@@ -57,6 +60,7 @@ dashes_told told = and_then (after_dashes told.part) (λ part. Ok (at_part told 
 abbrev pub is_open : Part → Bool
 is_open Start = false
 is_open Between = false
+is_open (Asked switch) = false
 is_open part = true
 
 -- the part of a switch of the fabric, or of any adapter or router
@@ -68,9 +72,20 @@ abbrev pub opened : FabricOf → NodeHead → Result Part LaneCause
 opened fabric (head.Switch guid) = opened_at (switch_with fabric guid)
 opened fabric (head.Adapter guid) = Ok Adapter
 
+abbrev pub begun : Told → Result Part LaneCause → Step
+begun told part = if is_open told.part then Err NoEnd else and_then part (λ part. Ok (at_part told part))
+
 abbrev pub head_told : FabricOf → Told → NodeHead → Step
-head_told fabric told node =
-    if is_open told.part then Err NoEnd else and_then (opened fabric node) (λ part. Ok (at_part told part))
+head_told fabric told node = begun told (opened fabric node)
+
+-- the rows that the switch with a LID was asked for
+abbrev pub asked_of : Option EndPort → Result Part LaneCause
+asked_of None = Err UnknownSwitch
+asked_of (Some (port.Host end)) = Err UnknownSwitch
+asked_of (Some (port.Switch switch)) = Ok (Asked switch)
+
+abbrev pub asked_told : FabricOf → Told → (lid : ℕ) → Step
+asked_told fabric told lid = begun told (asked_of (owner_of fabric lid))
 
 -- the row of a switch and its ports: none was told, or this one, or another
 abbrev pub row_put : Told → (switch entry port row : ℕ) → Option ℕ → Step
@@ -88,6 +103,7 @@ row_of fabric told entry port row switch =
 -- a row stands among those of a part; that of an adapter says nothing
 abbrev pub row_at : FabricOf → Told → (entry port row : ℕ) → Part → Step
 row_at fabric told entry port row (SwitchRows switch) = row_of fabric told entry port row switch
+row_at fabric told entry port row (Asked switch) = row_of fabric told entry port row switch
 row_at fabric told entry port row AdapterRows = Ok told
 row_at fabric told entry port row part = Err OutOfPlace
 
@@ -99,6 +115,7 @@ abbrev pub told_with : FabricOf → Told → LaneLine → Step
 told_with fabric told Nothing = Ok told
 told_with fabric told Dashes = dashes_told told
 told_with fabric told (Head node) = head_told fabric told node
+told_with fabric told (AskedLine lid) = asked_told fabric told lid
 told_with fabric told (Row entry port row) = row_told fabric told entry port row
 
 -- what is told after a line
@@ -118,9 +135,14 @@ pub long_line : (fabric : FabricOf) (told : Told) (line : List ℕ) → 4096 < l
 unfolding said_in told_after
 long_line fabric told line long = ap (λ said. and_then said (told_with fabric told)) (long_err line LineTooLong _ long)
 
--- the last part ended
+-- whether a text may end in a part: the last one ended, or has no line that ends it
+abbrev pub may_end : Part → Bool
+may_end Between = true
+may_end (Asked switch) = true
+may_end part = false
+
 abbrev pub IsEnded : Told → Type 0
-IsEnded told = told.part ≡ Between
+IsEnded told = may_end told.part ≡ true
 
 -- The bytes are the text of these lanes of the fabric: each line is good after those before it, the last
 -- part ended, and the lanes are those of the rows that the lines say, and 15 if they say none.

@@ -4,7 +4,7 @@ use Rattle.ib_net.specs.Fabric.{FabricOf, switch_count}
 use Rattle.ib_rows.specs.Lanes.{told_row}
 use Rattle.ib_sl2vl.specs.declared.reading.Reading.{Reading}
 use Rattle.ib_sl2vl.specs.declared.reading.Part.{Part}
-use Rattle.ib_sl2vl.specs.declared.reading.Part.TheVariants.{Switch, SwitchRows}
+use Rattle.ib_sl2vl.specs.declared.reading.Part.TheVariants.{Switch, SwitchRows, Asked}
 use Rattle.ib_sl2vl.specs.Lanes.{Told}
 
 -- what it has of them
@@ -15,6 +15,7 @@ told_of reading = record { part = reading.part; rows = told_row reading.rows }
 abbrev pub switch_in : Part → Option ℕ
 switch_in (Switch switch) = Some switch
 switch_in (SwitchRows switch) = Some switch
+switch_in (Asked switch) = Some switch
 switch_in part = None
 
 -- there is a place for the rows of each switch and its ports, and an open part is that of a switch that

@@ -1,4 +1,4 @@
-//! The lanes of a fabric, read from `opensm-sl2vl.dump`.
+//! The lanes of a fabric, read from `opensm-sl2vl.dump`, or from what `smpquery sl2vl` prints of its switches.
 //!
 //! It stands on `ib_reader` and `ib_rows`. Its one contract: `reader` says of which lanes of a fabric
 //! the bytes that a source gave are the text, or which of their lines is the first that is faulty, and by

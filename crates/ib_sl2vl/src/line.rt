@@ -1,12 +1,15 @@
 //! What a line of lanes says.
 
-ghost use Rattle.std.specs.Prelude.{◌≡◌, ◌≤◌, length, map};
+ghost use Rattle.std.specs.Prelude.{◌≡◌, ◌≤◌, length, map, IfOk};
 ghost use Rattle.ib_words.specs.Says.{IsSaid};
 ghost use Rattle.ib_sl2vl.specs.LaneLines.{lanes_in, packed, port_in, row_said, said_after};
-ghost use Rattle.ib_sl2vl.specs.LaneLines.{said_by, said_in};
+ghost use Rattle.ib_sl2vl.specs.LaneLines.{asked_head, asked_lid, asked_row, front_lid, is_parting, said_by};
+ghost use Rattle.ib_sl2vl.specs.LaneLines.{said_in, spaced};
 
+use an_base::memory::OutOfMemory;
 use ib_reader::reader::MOST_LINE;
-use ib_words::cut::begins;
+use ib_words::cut::{after, begins, cut};
+use ib_words::digits::number_to;
 use ib_words::head::{NodeHead, node_head};
 use ib_words::lane_cause::{LaneCause, LaneStop};
 use std::alloc::Global;
@@ -23,6 +26,8 @@ pub enum LaneLine {
     Dashes,
     /// The part of a node begins.
     Head(NodeHead),
+    /// The rows begin that the switch with this LID was asked for.
+    Asked(u64),
     /// The lanes of the sixteen levels for a port in and a port out, four bits each, that of level 0 the
     /// lowest.
     Row(u8, u8, u64),
@@ -39,13 +44,84 @@ pub fn lane_line(alloc: Global, line: &[u8]) -> Result<LaneLine, LaneStop>
     if begins(line, "#-") {
         return Ok(LaneLine::Dashes);
     }
+    if begins(line, "# SL2VL table:") {
+        return said(asked_head(asked_lid(line)));
+    }
+    if begins(line, "ports: in ") {
+        let line = spaced(alloc, line)?;
+        return said(asked_row(&words(alloc, &line)?));
+    }
     if let Some(head) = node_head(line) {
         return Ok(LaneLine::Head(head));
     }
-    let words = words(alloc, line)?;
-    match said_by(&words) {
+    said(said_by(&words(alloc, line)?))
+}
+
+// What is said, or the cause why a reader stops.
+fn said(said: Result<LaneLine, LaneCause>) -> Result<LaneLine, LaneStop>
+    ensures { IsSaid result said }
+{
+    match said {
         Ok(said) => Ok(said),
         Err(cause) => Err(Stop::Fault(cause)),
+    }
+}
+
+// The LID in the head of what `smpquery sl2vl` prints.
+#[tactic(auto, unfolding(crate::specs::LaneLines::asked_lid))]
+fn asked_lid(line: &[u8]) -> Option<u64>
+    ensures { result ≡ asked_lid line.now }
+{
+    let text = after(line, "# SL2VL table: Lid ")?;
+    front_lid(text)
+}
+
+// The LID at the front of a text, up to a space or the end.
+#[tactic(auto, unfolding(crate::specs::LaneLines::front_lid))]
+fn front_lid(text: &[u8]) -> Option<u64>
+    ensures { result ≡ front_lid text.now }
+{
+    match cut(text, b' ') {
+        Some((word, _rest)) => number_to(word, 0xFFFF),
+        None => number_to(text, 0xFFFF),
+    }
+}
+
+// The head with it.
+fn asked_head(lid: Option<u64>) -> Result<LaneLine, LaneCause>
+    ensures { result ≡ asked_head lid }
+{
+    match lid {
+        Some(lid) => Ok(LaneLine::Asked(lid)),
+        None => Err(LaneCause::UnknownLine),
+    }
+}
+
+// Whether a byte parts the words of a row that it prints: a colon, a comma or a bar.
+fn is_parting(byte: u8) -> bool
+    ensures { result ≡ is_parting byte }
+{
+    byte == b':' || byte == b',' || byte == b'|'
+}
+
+// The row with spaces in their places.
+fn spaced(alloc: Global, line: &[u8]) -> Result<Vec<u8>, OutOfMemory>
+    ensures { IfOk result (λ v. v.items ≡ spaced line.now) }
+{
+    let mut text = Vec::with_capacity(alloc, line.len())?;
+    'bytes: for byte in line {
+        text.push(if is_parting(*byte) { b' ' } else { *byte })?;
+    }
+    Ok(text)
+}
+
+// What its words say.
+fn asked_row(words: &[&[u8]]) -> Result<LaneLine, LaneCause>
+    ensures { result ≡ asked_row (map (λ w. w.now) words.now) }
+{
+    match words {
+        [_ports, _in, entry, _out, port, lanes @ ..] => row_said(entry, port, lanes),
+        _ => Err(LaneCause::UnknownLine),
     }
 }
 

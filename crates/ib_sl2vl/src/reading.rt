@@ -1,16 +1,17 @@
 //! What the lines of lanes say so far.
 
 ghost use Rattle.std.specs.Prelude.{◌≡◌, ◌<◌, ◌≤◌, IfOk, IfSome, OnOk};
-ghost use Rattle.ib_net.specs.Fabric.{ports_of, switch_count};
+ghost use Rattle.ib_net.specs.Fabric.{owner_of, ports_of, switch_count};
 ghost use Rattle.ib_rows.specs.Lanes.{told_row};
 ghost use Rattle.ib_words.specs.Says.{LedToOrWant};
-ghost use Rattle.ib_sl2vl.specs.Lanes.{dashes_told, head_told, is_open, none_told, opened, row_put};
+ghost use Rattle.ib_sl2vl.specs.Lanes.{asked_of, begun, dashes_told, is_open, none_told, opened, row_put};
 ghost use Rattle.ib_sl2vl.specs.Lanes.{row_told, told_with};
 ghost use Rattle.ib_sl2vl.specs.Readings.{IsFit, KeepsSize, switch_in, told_of};
 
 use crate::line::{LaneLine, lane_line};
 use an_base::memory::OutOfMemory;
 use ib_net::fabric::Fabric;
+use ib_net::node::EndPort;
 use ib_reader::takes::TakesLines;
 use ib_rows::lanes::LaneRows;
 use ib_words::head::NodeHead;
@@ -33,6 +34,8 @@ pub enum Part {
     Adapter,
     /// The rows of an adapter or router, which say nothing.
     AdapterRows,
+    /// Rows that a switch was asked for. They end where another part begins, or the text.
+    Asked(usize),
 }
 
 impl Part {
@@ -41,7 +44,7 @@ impl Part {
         ensures { result ≡ is_open self }
     {
         match self {
-            Part::Start | Part::Between => false,
+            Part::Start | Part::Between | Part::Asked(_) => false,
             Part::Switch(_) | Part::SwitchRows(_) | Part::Adapter | Part::AdapterRows => true,
         }
     }
@@ -79,7 +82,7 @@ impl TakesLines<LaneCause> for Reading {
 
     fn may_end(&self) -> bool {
         match self.part {
-            Part::Between => true,
+            Part::Between | Part::Asked(_) => true,
             Part::Start
             | Part::Switch(_)
             | Part::SwitchRows(_)
@@ -110,7 +113,8 @@ impl Reading {
         match said {
             LaneLine::Nothing => Ok(()),
             LaneLine::Dashes => self.add_dashes(fabric),
-            LaneLine::Head(head) => self.begin(fabric, head),
+            LaneLine::Head(head) => self.begin(fabric, opened(fabric, head)),
+            LaneLine::Asked(lid) => self.begin(fabric, asked_of(fabric, lid)),
             LaneLine::Row(entry, port, row) => self.add_row(fabric, entry, port, row),
         }
     }
@@ -125,21 +129,24 @@ impl Reading {
             Part::Switch(switch) => self.part = Part::SwitchRows(switch),
             Part::Adapter => self.part = Part::AdapterRows,
             Part::SwitchRows(_) | Part::AdapterRows => self.part = Part::Between,
-            Part::Start | Part::Between => return Err(Stop::Fault(LaneCause::OutOfPlace)),
+            Part::Start | Part::Between | Part::Asked(_) => {
+                return Err(Stop::Fault(LaneCause::OutOfPlace));
+            }
         }
         Ok(())
     }
 
     // Begins the part of a node.
-    fn begin(&mut self, fabric: &Fabric, head: NodeHead) -> Result<(), LaneStop>
-        requires { IsFit fabric.now self.old }
-        ensures step { LedToOrWant result (told_of self.new) (head_told fabric.now (told_of self.old) head) }
+    fn begin(&mut self, fabric: &Fabric, part: Result<Part, LaneCause>) -> Result<(), LaneStop>
+        requires fit { IsFit fabric.now self.old }
+        requires within { IfOk part (λ part. IfSome (switch_in part) (λ switch. switch < switch_count fabric.now)) }
+        ensures step { LedToOrWant result (told_of self.new) (begun (told_of self.old) part) }
         ensures fit { OnOk result (IsFit fabric.now self.new) }
     {
         if self.part.is_open() {
             return Err(Stop::Fault(LaneCause::NoEnd));
         }
-        match opened(fabric, head) {
+        match part {
             Ok(part) => {
                 self.part = part;
                 Ok(())
@@ -155,7 +162,7 @@ impl Reading {
         ensures fit { OnOk result (IsFit fabric.now self.new) }
     {
         match self.part {
-            Part::SwitchRows(switch) => {
+            Part::SwitchRows(switch) | Part::Asked(switch) => {
                 let most = ports(fabric, switch);
                 if most < usize::from(entry) || most < usize::from(port) {
                     return Err(Stop::Fault(LaneCause::NoSuchPort));
@@ -200,6 +207,19 @@ fn opened(fabric: &Fabric, head: NodeHead) -> Result<Part, LaneCause>
             None => Err(LaneCause::UnknownSwitch),
         },
         NodeHead::Adapter(_) => Ok(Part::Adapter),
+    }
+}
+
+// The part of the switch of the fabric that owns a LID.
+fn asked_of(fabric: &Fabric, lid: u64) -> Result<Part, LaneCause>
+    ensures part { result ≡ asked_of (owner_of fabric.now lid) }
+    ensures within { IfOk result (λ part. IfSome (switch_in part) (λ switch. switch < switch_count fabric.now)) }
+{
+    // Only a fabric that is asked for its ports says that the owners of its LIDs are there.
+    let _most = fabric.most();
+    match fabric.owner(lid as usize) {
+        Some(EndPort::Switch(switch)) => Ok(Part::Asked(switch as usize)),
+        Some(EndPort::Host(_)) | None => Err(LaneCause::UnknownSwitch),
     }
 }
 

@@ -1,5 +1,5 @@
 -- What a reading tells of what a source gave.
-use Rattle.std.proofs.Common.{◌≡◌, subst, refl, List, ℕ}
+use Rattle.std.proofs.Common.{◌≡◌, subst, refl}
 use Rattle.outside.specs.Told.{Seen}
 use Rattle.ib_net.specs.Fabric.{FabricOf}
 use Rattle.ib_reader.specs.declared.reader.TextRefusal.{TextRefusal}

@@ -1,23 +1,19 @@
 -- One text, or one fault.
-use Rattle.std.proofs.Common.{◌≡◌, ap, refl, ◌∙◌, sym, ℕ, ◌⊎◌, inl, inr, List}
+use Rattle.std.proofs.Common.{◌≡◌, ap, refl, ◌∙◌, sym, ℕ, ◌⊎◌, inl, inr, Bool, true, false, List}
+use Rattle.std.proofs.lemmas.Bool.{false≢true}
 use Rattle.ib_net.specs.Fabric.{FabricOf}
 use Rattle.ib_cells.specs.Cells.{TablesOf}
 use Rattle.ib_reader.proofs.TextLaws as laws
 use Rattle.ib_tables.specs.declared.cause.TablesCause.{TablesCause}
 use Rattle.ib_tables.specs.declared.cause.TablesCause.TheVariants.{NoEnd}
-use Rattle.ib_tables.specs.declared.reading.Part.{Part}
-use Rattle.ib_tables.specs.declared.reading.Part.TheVariants.{Start, Between, Dumped, Plain, PlainOf}
-use Rattle.ib_tables.specs.Tables.{Told, none_told, told_after, IsEnded, IsTablesText, IsTablesFault}
+use Rattle.ib_tables.specs.Tables.{Told, may_end, none_told, told_after, IsEnded, IsTablesText, IsTablesFault}
 
-part_or : (p : Part) → (p ≡ Between) ⊎ (¬ (p ≡ Between))
-part_or Start = inr (λ same. cc)
-part_or Between = inl refl
-part_or (Dumped s) = inr (λ same. cc)
-part_or Plain = inr (λ same. cc)
-part_or (PlainOf s) = inr (λ same. cc)
+or_not : (b : Bool) → (b ≡ true) ⊎ (¬ (b ≡ true))
+or_not true = inl refl
+or_not false = inr false≢true
 
 ended_or : (d : Told) → IsEnded d ⊎ (¬ IsEnded d)
-ended_or d = part_or d.part
+ended_or d = or_not (may_end d.part)
 
 module _ (fabric : FabricOf) (bytes : List ℕ) where
   pub one_text : (tables others : TablesOf) (rows unowned more other : ℕ) → IsTablesText fabric bytes tables rows unowned → IsTablesText fabric bytes others more other → (tables ≡ others) × (rows ≡ more) × (unowned ≡ other)

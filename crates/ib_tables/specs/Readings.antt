@@ -1,11 +1,13 @@
 -- What a reader keeps of the lines so far. Only private functions cite this.
 
-use Rattle.std.specs.Prelude.{◌≡◌, ◌<◌, ◌≤◌, ◌*◌, ℕ, length, Option, Some, None, IfSome}
+use Rattle.std.specs.Prelude.{◌≡◌, ◌<◌, ◌≤◌, ◌*◌, ℕ, length, Option, Some, None, IfSome, ⊤}
 use Rattle.ib_net.specs.Fabric.{FabricOf, switch_count}
 use Rattle.ib_cells.specs.Cells.{tables_of}
+use Rattle.ib_tables.specs.declared.line.TableLine.{TableLine}
+use Rattle.ib_tables.specs.declared.line.TableLine.TheVariants.{ListedRow, PlainRow, Row}
 use Rattle.ib_tables.specs.declared.reading.Reading.{Reading}
 use Rattle.ib_tables.specs.declared.reading.Part.{Part}
-use Rattle.ib_tables.specs.declared.reading.Part.TheVariants.{Dumped, PlainOf}
+use Rattle.ib_tables.specs.declared.reading.Part.TheVariants.{Dumped, Listed, PlainOf}
 use Rattle.ib_tables.specs.Tables.{Told}
 
 -- what it has of them
@@ -22,13 +24,22 @@ told_of reading =
 abbrev pub switch_in : Part → Option ℕ
 switch_in (Dumped switch) = Some switch
 switch_in (PlainOf switch) = Some switch
+switch_in (Listed switch) = Some switch
 switch_in part = None
 
--- there is a cell for each switch and each LID that has an owner, and rows belong to a switch that there is; rows for
--- LIDs that nobody owns are among all
+-- a row is for a unicast LID
+abbrev pub IsUnicast : TableLine → Type 0
+IsUnicast (Row lid port) = lid ≤ 0xbfff
+IsUnicast (ListedRow lid port) = lid ≤ 0xbfff
+IsUnicast (PlainRow lid port) = lid ≤ 0xbfff
+IsUnicast line = ⊤
+
+-- there is a cell for each switch and each LID that has an owner, and maybe for more unicast LIDs; rows belong to a switch
+-- that there is; rows for LIDs that nobody owns are among all
 pub record IsFit (fabric : FabricOf) (reading : Reading) : Type 0 where
   pub switches : reading.cells.switches ≡ switch_count fabric
   pub lids : length fabric.owners ≤ 64 * reading.cells.blocks
+  pub most : 64 * reading.cells.blocks ≤ 0xC000
   pub within : IfSome (switch_in reading.part) (λ switch. switch < switch_count fabric)
   pub unowned : reading.unowned ≤ reading.rows
 

@@ -18,10 +18,11 @@ pub record GaveTables (fabric : FabricOf) (old new : Seen) (found : Tables) : Ty
   pub end : IsAtEnd new
   pub text : IsTablesText fabric bytes (tables_of found.cells) found.rows found.unowned
 
--- there is a cell for each switch and each LID that has an owner
+-- there is a cell for each switch and each LID that has an owner, and maybe for more unicast LIDs
 pub record HasCells (fabric : FabricOf) (found : Tables) : Type 0 where
   pub switches : found.cells.switches ≡ switch_count fabric
   pub lids : length fabric.owners ≤ 64 * found.cells.blocks
+  pub most : 64 * found.cells.blocks ≤ 0xC000
 
 -- why there are no tables: what the source gave has this fault, it failed, or no memory was found
 abbrev pub IsRefusedBy : FabricOf → (old new : Seen) → TextRefusal TablesCause → Type 0

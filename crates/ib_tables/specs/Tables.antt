@@ -1,6 +1,6 @@
 -- The text of the tables of a fabric.
 
-use Rattle.std.specs.Prelude.{◌≡◌, ◌+◌, ◌<◌, ◌==◌, ℕ, Bool, true, false, List, length, ⊤, if◌then◌else◌}
+use Rattle.std.specs.Prelude.{◌≡◌, ◌+◌, ◌<◌, ◌==◌, ◌||◌, ℕ, Bool, true, false, List, length, ⊤, if◌then◌else◌}
 use Rattle.std.specs.Prelude.{Option, Some, None, is_none, Result, Ok, Err}
 use Rattle.std.proofs.Common.{ap}
 use Rattle.text_lines.specs.Lines.{lines_of}
@@ -11,9 +11,9 @@ use Rattle.ib_net.specs.Fabric.{FabricOf, owner_of, switch_with}
 use Rattle.ib_cells.specs.Cells.{TablesOf, with_port}
 use Rattle.ib_tables.specs.declared.line.TableLine.{TableLine}
 use Rattle.ib_tables.specs.declared.line.TableLine.TheVariants.{Nothing, Head, Row, End, PlainHead, PlainSwitch}
-use Rattle.ib_tables.specs.declared.line.TableLine.TheVariants.{PlainRow, PlainEnd}
+use Rattle.ib_tables.specs.declared.line.TableLine.TheVariants.{PlainRow, PlainEnd, ListedHead, ListedRow}
 use Rattle.ib_tables.specs.declared.reading.Part.{Part}
-use Rattle.ib_tables.specs.declared.reading.Part.TheVariants.{Start, Between, Dumped, Plain, PlainOf}
+use Rattle.ib_tables.specs.declared.reading.Part.TheVariants.{Start, Between, Dumped, Plain, PlainOf, Listed}
 use Rattle.ib_tables.specs.declared.cause.TablesCause.{TablesCause}
 use Rattle.ib_tables.specs.declared.cause.TablesCause.TheVariants.{LineTooLong, UnknownLine, UnknownSwitch, OutOfPlace, NoEnd}
 use Rattle.ib_tables.specs.declared.cause.TablesCause.TheVariants.{PortDiffers}
@@ -35,7 +35,7 @@ no_ports switch lid = None
 abbrev pub none_told : Told
 none_told = record { part = Start; tables = no_ports; rows = 0; unowned = 0 }
 
--- whether a table of a dump is open, and whether a plain text is
+-- whether a table of a dump is open, whether a plain text is, and whether a table of a list is
 abbrev pub is_dump : Part → Bool
 is_dump (Dumped switch) = true
 is_dump part = false
@@ -45,15 +45,23 @@ is_plain Plain = true
 is_plain (PlainOf switch) = true
 is_plain part = false
 
--- the switch to which a row belongs that is printed as the tools do, and one in plain words: the one form is unknown in
--- a plain text, and the other in a dump
+abbrev pub is_list : Part → Bool
+is_list (Listed switch) = true
+is_list part = false
+
+-- the switch to which a row of a dump belongs, one of a list, and one in plain words: where a part of one form is open,
+-- rows of the others are unknown
 abbrev pub switch_dumped : Part → Result ℕ TablesCause
 switch_dumped (Dumped switch) = Ok switch
-switch_dumped part = if is_plain part then Err UnknownLine else Err OutOfPlace
+switch_dumped part = if is_plain part || is_list part then Err UnknownLine else Err OutOfPlace
+
+abbrev pub switch_listed : Part → Result ℕ TablesCause
+switch_listed (Listed switch) = Ok switch
+switch_listed part = if is_plain part || is_dump part then Err UnknownLine else Err OutOfPlace
 
 abbrev pub switch_plain : Part → Result ℕ TablesCause
 switch_plain (PlainOf switch) = Ok switch
-switch_plain part = if is_dump part then Err UnknownLine else Err OutOfPlace
+switch_plain part = if is_dump part || is_list part then Err UnknownLine else Err OutOfPlace
 
 -- what is told after a line, or why the line is faulty
 abbrev pub Step : Type 0
@@ -67,28 +75,31 @@ abbrev pub rows_of : Told → (ℕ → Part) → Option ℕ → Step
 rows_of told part None = Err UnknownSwitch
 rows_of told part (Some switch) = Ok (at_part told (part switch))
 
--- a row that names a port, for a LID that nobody owns and for one that has an owner
-abbrev pub unowned_row : Told → Told
-unowned_row told = record told { rows = told.rows + 1; unowned = told.unowned + 1 }
+-- a row that names a port; it counts among those for LIDs that nobody owns if its LID is one
+abbrev pub unowned_with : FabricOf → (lid count : ℕ) → ℕ
+unowned_with fabric lid count = if is_none (owner_of fabric lid) then count + 1 else count
 
-abbrev pub owned_row : Told → (switch lid port : ℕ) → Told
-owned_row told switch lid port =
-    record told { rows = told.rows + 1; tables = with_port told.tables switch lid port }
+abbrev pub row_added : FabricOf → Told → (switch lid port : ℕ) → Told
+row_added fabric told switch lid port =
+    record told {
+      rows = told.rows + 1;
+      unowned = unowned_with fabric lid told.unowned;
+      tables = with_port told.tables switch lid port;
+    }
 
--- the port of an owned LID: none was told, or this one, or another
-abbrev pub port_told : Told → (switch lid port : ℕ) → Option ℕ → Step
-port_told told switch lid port None = Ok (owned_row told switch lid port)
-port_told told switch lid port (Some other) =
-    if other == port then Ok (owned_row told switch lid port) else Err PortDiffers
+-- the port of a LID: none was told, or this one, or another
+abbrev pub port_told : FabricOf → Told → (switch lid port : ℕ) → Option ℕ → Step
+port_told fabric told switch lid port None = Ok (row_added fabric told switch lid port)
+port_told fabric told switch lid port (Some other) =
+    if other == port then Ok (row_added fabric told switch lid port) else Err PortDiffers
 
 -- 255 is no port: such a row says nothing
 abbrev pub row_told : FabricOf → Told → (lid port switch : ℕ) → Step
 row_told fabric told lid port switch =
-    if port == 255 then Ok told
-    else (if is_none (owner_of fabric lid) then Ok (unowned_row told)
-    else port_told told switch lid port (told.tables switch lid))
+    if port == 255 then Ok told else port_told fabric told switch lid port (told.tables switch lid)
 
--- a dump's table, or a plain text, begins if none is open, and ends if one is
+-- a table, or a plain text, begins if none is open but that of a list, which ends there; one of a dump, or a plain text,
+-- ends if it is open
 abbrev pub may_begin : Part → Result ⊤ TablesCause
 may_begin part = if is_dump part then Err NoEnd else (if is_plain part then Err OutOfPlace else Ok tt)
 
@@ -102,8 +113,10 @@ if_open is_open step = if is_open then step else Err OutOfPlace
 abbrev pub told_with : FabricOf → Told → TableLine → Step
 told_with fabric told Nothing = Ok told
 told_with fabric told (Row lid port) = and_then (switch_dumped told.part) (row_told fabric told lid port)
+told_with fabric told (ListedRow lid port) = and_then (switch_listed told.part) (row_told fabric told lid port)
 told_with fabric told (PlainRow lid port) = and_then (switch_plain told.part) (row_told fabric told lid port)
 told_with fabric told (Head guid) = begins_told told (rows_of told Dumped (switch_with fabric guid))
+told_with fabric told (ListedHead guid) = begins_told told (rows_of told Listed (switch_with fabric guid))
 told_with fabric told End = if_open (is_dump told.part) (Ok (at_part told Between))
 told_with fabric told PlainHead = begins_told told (Ok (at_part told Plain))
 told_with fabric told (PlainSwitch guid) =
@@ -127,13 +140,18 @@ pub long_line : (fabric : FabricOf) (told : Told) (line : List ℕ) → 4096 < l
 unfolding said_in told_after
 long_line fabric told line long = ap (λ said. and_then said (told_with fabric told)) (long_err line LineTooLong _ long)
 
--- the last part ended
+-- The last part ended. A list has no last line, and ends with the text: where it was cut off between two lines, nothing
+-- shows that.
+abbrev pub may_end : Part → Bool
+may_end Between = true
+may_end part = is_list part
+
 abbrev pub IsEnded : Told → Type 0
-IsEnded told = told.part ≡ Between
+IsEnded told = may_end told.part ≡ true
 
 -- The bytes are the text of these tables of the fabric: each line is good after those before it, the last
--- part ended, and the tables are what the lines say. So many rows named a port, and so many of them for LIDs
--- that nobody owns.
+-- part ended, and the tables are what the lines say, for each LID, whoever owns it. So many rows named a port, and so
+-- many of them for LIDs that nobody owns.
 pub record IsTablesText (fabric : FabricOf) (bytes : List ℕ) (tables : TablesOf) (rows unowned : ℕ)
     : Type 0 where
   pub last : Told

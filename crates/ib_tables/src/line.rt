@@ -1,15 +1,18 @@
 //! What a line of a text of tables says.
 
-ghost use Rattle.std.specs.Prelude.{◌≡◌, ◌≤◌, codes, false, length, map};
+ghost use Rattle.std.specs.Prelude.{◌≡◌, ◌≤◌, ◌++◌, codes, false, length, map};
 ghost use Rattle.ib_words.specs.Cuts.{begins};
+ghost use Rattle.ib_words.specs.Rows.{row};
 ghost use Rattle.ib_words.specs.Says.{IsSaid};
-ghost use Rattle.ib_tables.specs.TableLines.{dumped_row, unicast, head, head_guid, plain_row, plain_switch};
-ghost use Rattle.ib_tables.specs.declared.line.TableLine.TheVariants.{Row};
-ghost use Rattle.ib_tables.specs.TableLines.{is_count, said_by, said_by_one, said_by_two, said_by_three, said_by_four, said_in};
+ghost use Rattle.ib_tables.specs.TableLines.{unicast, head, head_guid, plain_row, plain_switch};
+ghost use Rattle.ib_tables.specs.TableLines.{is_lister, listed, listed_head, listed_port, listed_row, printed_row};
+ghost use Rattle.ib_tables.specs.TableLines.{is_count, said_by, said_by_one, said_by_two, said_by_three, said_by_four};
+ghost use Rattle.ib_tables.specs.TableLines.{said_by_seven, said_in};
+ghost use Rattle.ib_tables.specs.declared.line.TableLine.{TableLine};
 
 use crate::cause::TablesCause;
 use ib_reader::reader::MOST_LINE;
-use ib_words::cut::{begins, cut_first};
+use ib_words::cut::{after, begins, cut_first};
 use ib_words::digits::{decimal, guid, hex_after};
 use ib_words::row::row;
 use std::alloc::Global;
@@ -28,6 +31,10 @@ pub enum TableLine {
     Row(u16, u8),
     /// The table of a switch ends, in a dump.
     End,
+    /// The table of the switch with this GUID begins, in a list.
+    ListedHead(u64),
+    /// The same as of `Row`, in a list.
+    ListedRow(u16, u8),
     /// A plain text begins.
     PlainHead,
     /// The rows that follow are of the switch with this GUID.
@@ -50,7 +57,7 @@ pub fn table_line(alloc: Global, line: &[u8]) -> Result<TableLine, TablesStop>
         return Err(Stop::Fault(TablesCause::LineTooLong));
     }
     if begins(line, "0x") {
-        return or_stop(dumped_row(line));
+        return or_stop(printed_row(line));
     }
     other_line(alloc, line)
 }
@@ -83,23 +90,72 @@ fn or_stop(said: Result<TableLine, TablesCause>) -> Result<TableLine, TablesStop
 }
 
 // What a row says that is printed as the tools do.
-fn dumped_row(line: &[u8]) -> Result<TableLine, TablesCause>
-    ensures { result ≡ dumped_row line.now }
+fn printed_row(line: &[u8]) -> Result<TableLine, TablesCause>
+    ensures { result ≡ printed_row line.now }
 {
     match row(line) {
-        Some((lid, port)) => row_for(lid, port),
+        Some((lid, port)) => row_for(lid, TableLine::Row(lid, port)),
+        None => listed_row(line),
+    }
+}
+
+// What a row of a list says.
+fn listed_row(line: &[u8]) -> Result<TableLine, TablesCause>
+    ensures { result ≡ listed_row line.now }
+{
+    match listed(line) {
+        Some((lid, port)) => row_for(lid, TableLine::ListedRow(lid, port)),
         None => Err(TablesCause::BadRow),
     }
 }
 
-// A row for a LID, which is to be a unicast LID.
-fn row_for(lid: u16, port: u8) -> Result<TableLine, TablesCause>
-    ensures { result ≡ unicast lid (Row lid port) }
+// The LID and the port of a row of a list.
+#[tactic(auto, unfolding(crate::specs::TableLines::listed))]
+fn listed(line: &[u8]) -> Option<(u16, u8)>
+    ensures { result ≡ listed line.now }
+{
+    if line.len() < 7 {
+        return None;
+    }
+    let rest = after(&line[7..], ": ")?;
+    joined_row(&line[..7], listed_port(rest))
+}
+
+// The port of such a row, and what follows it.
+fn listed_port(rest: &[u8]) -> &[u8]
+    ensures { result.now ≡ listed_port rest.now }
+{
+    if begins(rest, "UNREACHABLE") {
+        return b"255";
+    }
+    rest
+}
+
+// What a row of a dump says whose first seven bytes, and whose others, are told. Of the others the first four count.
+fn joined_row(front: &[u8], rest: &[u8]) -> Option<(u16, u8)>
+    requires { length front.now ≡ 7 }
+    ensures { result ≡ row (front.now ++ rest.now) }
+{
+    let [a, b, c, d, e, f, g] = [
+        front[0], front[1], front[2], front[3], front[4], front[5], front[6],
+    ];
+    if rest.len() < 3 {
+        return None;
+    }
+    if rest.len() == 3 {
+        return row(&[a, b, c, d, e, f, g, rest[0], rest[1], rest[2]]);
+    }
+    row(&[a, b, c, d, e, f, g, rest[0], rest[1], rest[2], rest[3]])
+}
+
+// What a line says of a LID, which is to be a unicast LID.
+fn row_for(lid: u16, line: TableLine) -> Result<TableLine, TablesCause>
+    ensures { result ≡ unicast lid line }
 {
     if lid > 0xbfff {
         return Err(TablesCause::LidRange);
     }
-    Ok(TableLine::Row(lid, port))
+    Ok(line)
 }
 
 // The head of a switch's table.
@@ -130,6 +186,9 @@ fn said_by(words: &[&[u8]]) -> Result<TableLine, TablesCause>
         [first, second] => said_by_two(first, second),
         [first, second, third] => said_by_three(first, second, third),
         [first, second, third, fourth] => said_by_four(first, second, third, fourth),
+        [first, second, third, fourth, fifth, sixth, seventh] => {
+            said_by_seven(first, second, third, fourth, fifth, sixth, seventh)
+        }
         _ => Err(TablesCause::UnknownLine),
     }
 }
@@ -167,6 +226,9 @@ fn said_by_three(first: &[u8], second: &[u8], third: &[u8]) -> Result<TableLine,
     if is_count(first) && is(second, "lids") && is(third, "dumped") {
         return Ok(TableLine::End);
     }
+    if is_lister(first) && is(second, "Switch") {
+        return listed_head(third);
+    }
     Err(TablesCause::UnknownLine)
 }
 
@@ -183,6 +245,42 @@ fn said_by_four(
         return Ok(TableLine::End);
     }
     Err(TablesCause::UnknownLine)
+}
+
+// Only the names of the columns of a list have seven words.
+fn said_by_seven(
+    first: &[u8],
+    second: &[u8],
+    third: &[u8],
+    fourth: &[u8],
+    fifth: &[u8],
+    sixth: &[u8],
+    seventh: &[u8],
+) -> Result<TableLine, TablesCause>
+    ensures { result ≡ said_by_seven first.now second.now third.now fourth.now fifth.now sixth.now seventh.now }
+{
+    let is_hops = is(fourth, ":") && is(fifth, "Hops") && is(sixth, ":") && is(seventh, "Optimal");
+    if is(first, "LID") && is(second, ":") && is(third, "Port") && is_hops {
+        return Ok(TableLine::Nothing);
+    }
+    Err(TablesCause::UnknownLine)
+}
+
+// Whether a word is the name of the function by which OpenSM, or another subnet manager, prints a list.
+fn is_lister(word: &[u8]) -> bool
+    ensures { result ≡ is_lister word.now }
+{
+    is(word, "dump_ucast_routes:") || is(word, "osm_ucast_mgr_dump_ucast_routes:")
+}
+
+// The switch to which the next rows of a list belong.
+fn listed_head(word: &[u8]) -> Result<TableLine, TablesCause>
+    ensures { result ≡ listed_head word.now }
+{
+    match hex_after(word) {
+        Some(guid) => Ok(TableLine::ListedHead(guid)),
+        None => Err(TablesCause::BadGuid),
+    }
 }
 
 // Whether a word is one of digits.

@@ -15,7 +15,8 @@ use std::alloc::Global;
 /// The tables of a fabric.
 #[derive(Drop)]
 pub struct Tables {
-    /// The port of each switch for each LID that has an owner.
+    /// The port of each switch for each LID, whether it has an owner or not. Cells are there for all LIDs that have one,
+    /// and for all that a row names.
     pub cells: Cells,
     /// How many rows named a port.
     pub rows: u64,

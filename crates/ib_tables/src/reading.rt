@@ -1,13 +1,15 @@
 //! What the lines of tables say so far.
 
-ghost use Rattle.std.specs.Prelude.{◌≡◌, ◌+◌, ◌<◌, ◌≤◌, ◌^◌, ◌-◌, IfOk, OnOk, None, Some, Ok, MatchResult};
-ghost use Rattle.ib_words.specs.Says.{and_then, LedTo};
+ghost use Rattle.std.specs.Prelude.{◌≡◌, ◌+◌, ◌*◌, ◌<◌, ◌≤◌, ◌^◌, ◌-◌, ℕ, IfOk, OnOk, None, Some, Ok, MatchResult};
+ghost use Rattle.ib_words.specs.Says.{and_then, LedTo, LedToOrWant};
 ghost use Rattle.ib_net.specs.Fabric.{switch_count, switch_with};
+ghost use Rattle.ib_cells.specs.Cells.{tables_of};
 ghost use Rattle.ib_tables.specs.declared.cause.TablesCause.TheVariants.{UnknownSwitch};
-ghost use Rattle.ib_tables.specs.declared.reading.Part.TheVariants.{Between, Dumped, Plain, PlainOf};
-ghost use Rattle.ib_tables.specs.Tables.{is_dump, is_plain, may_begin, none_told, told_with};
-ghost use Rattle.ib_tables.specs.Tables.{at_part, begins_told, if_open, row_told, rows_of, switch_dumped, switch_plain};
-ghost use Rattle.ib_tables.specs.Readings.{switch_in, told_of, IsFit, KeepsRows};
+ghost use Rattle.ib_tables.specs.declared.reading.Part.TheVariants.{Between, Dumped, Listed, Plain, PlainOf};
+ghost use Rattle.ib_tables.specs.Tables.{is_dump, is_list, is_plain, may_begin, may_end, none_told, told_with, Told};
+ghost use Rattle.ib_tables.specs.Tables.{at_part, begins_told, if_open, row_told, rows_of};
+ghost use Rattle.ib_tables.specs.Tables.{switch_dumped, switch_listed, switch_plain, unowned_with, Step};
+ghost use Rattle.ib_tables.specs.Readings.{switch_in, told_of, IsFit, IsUnicast, KeepsRows};
 
 use crate::cause::TablesCause;
 use crate::first::first_row;
@@ -32,6 +34,8 @@ pub enum Part {
     Plain,
     /// The rows of this switch in a plain text.
     PlainOf(usize),
+    /// The table of this switch in a list, which ends with the next head or the text.
+    Listed(usize),
 }
 
 impl Part {
@@ -54,7 +58,27 @@ impl Part {
     {
         match self {
             Part::Dumped(_) => true,
-            Part::Start | Part::Between | Part::Plain | Part::PlainOf(_) => false,
+            Part::Start | Part::Between | Part::Plain | Part::PlainOf(_) | Part::Listed(_) => false,
+        }
+    }
+
+    // Whether it is a table of a list.
+    fn is_list(self) -> bool
+        ensures { result ≡ is_list self }
+    {
+        match self {
+            Part::Listed(_) => true,
+            Part::Start | Part::Between | Part::Dumped(_) | Part::Plain | Part::PlainOf(_) => false,
+        }
+    }
+
+    // Whether the text may end in it.
+    fn may_end(self) -> bool
+        ensures { result ≡ may_end self }
+    {
+        match self {
+            Part::Between | Part::Listed(_) => true,
+            Part::Start | Part::Dumped(_) | Part::Plain | Part::PlainOf(_) => false,
         }
     }
 
@@ -64,11 +88,11 @@ impl Part {
     {
         match self {
             Part::Plain | Part::PlainOf(_) => true,
-            Part::Start | Part::Between | Part::Dumped(_) => false,
+            Part::Start | Part::Between | Part::Dumped(_) | Part::Listed(_) => false,
         }
     }
 
-    // The switch to which a row belongs that is printed as the tools do; else the cause why it may not stand here.
+    // The switch to which a row of a dump belongs; else the cause why it may not stand here.
     #[inline]
     fn switch_dumped(self) -> Result<usize, TablesCause>
         ensures switch { result ≡ switch_dumped self }
@@ -76,7 +100,19 @@ impl Part {
     {
         match self {
             Part::Dumped(switch) => Ok(switch),
-            Part::Plain | Part::PlainOf(_) => Err(TablesCause::UnknownLine),
+            Part::Plain | Part::PlainOf(_) | Part::Listed(_) => Err(TablesCause::UnknownLine),
+            Part::Start | Part::Between => Err(TablesCause::OutOfPlace),
+        }
+    }
+
+    // The same of a row of a list.
+    fn switch_listed(self) -> Result<usize, TablesCause>
+        ensures switch { result ≡ switch_listed self }
+        ensures here { IfOk result (λ switch. switch_in self ≡ Some switch) }
+    {
+        match self {
+            Part::Listed(switch) => Ok(switch),
+            Part::Plain | Part::PlainOf(_) | Part::Dumped(_) => Err(TablesCause::UnknownLine),
             Part::Start | Part::Between => Err(TablesCause::OutOfPlace),
         }
     }
@@ -88,7 +124,7 @@ impl Part {
     {
         match self {
             Part::PlainOf(switch) => Ok(switch),
-            Part::Dumped(_) => Err(TablesCause::UnknownLine),
+            Part::Dumped(_) | Part::Listed(_) => Err(TablesCause::UnknownLine),
             Part::Start | Part::Between | Part::Plain => Err(TablesCause::OutOfPlace),
         }
     }
@@ -99,7 +135,7 @@ impl Part {
 pub struct Reading {
     /// The part in which the next line stands.
     part: Part,
-    /// The ports of the LIDs that have an owner.
+    /// The ports of the LIDs, whoever owns them.
     pub cells: Cells,
     /// How many rows named a port.
     pub rows: u64,
@@ -116,6 +152,17 @@ fn known(fabric: &Fabric, guid: u64) -> Result<usize, TablesCause>
     match fabric.switch_with(guid) {
         Some(switch) => Ok(switch as usize),
         None => Err(TablesCause::UnknownSwitch),
+    }
+}
+
+// What was done, with a cause as the reason to stop.
+fn or_stop(done: Result<(), TablesCause>) -> Result<(), TablesStop>
+    ensures step { (after : Told) (step : Step) → LedTo done after step → LedToOrWant result after step }
+    ensures done { OnOk result (done ≡ Ok tt) }
+{
+    match done {
+        Ok(()) => Ok(()),
+        Err(cause) => Err(Stop::Fault(cause)),
     }
 }
 
@@ -138,10 +185,7 @@ impl TakesLines<TablesCause> for Reading {
     #[inline(never)]
     fn take(&mut self, alloc: Global, fabric: &Fabric, line: &[u8]) -> Result<(), TablesStop> {
         let said = table_line(alloc, line)?;
-        if let Err(cause) = self.add(fabric, said) {
-            return Err(Stop::Fault(cause));
-        }
-        Ok(())
+        self.add(fabric, said)
     }
 
     // Nearly all lines are rows, so a row is looked for first.
@@ -154,17 +198,12 @@ impl TakesLines<TablesCause> for Reading {
         let Some(row) = first_row(bytes) else {
             return Ok(None);
         };
-        if let Err(cause) = self.add_row(fabric, self.part.switch_dumped(), row.lid, row.port) {
-            return Err(Stop::Fault(cause));
-        }
+        self.add_row(fabric, self.part.switch_dumped(), row.lid, row.port)?;
         Ok(Some(row.end))
     }
 
     fn may_end(&self) -> bool {
-        match self.part {
-            Part::Between => true,
-            Part::Start | Part::Dumped(_) | Part::Plain | Part::PlainOf(_) => false,
-        }
+        self.part.may_end()
     }
 }
 
@@ -183,27 +222,35 @@ impl Reading {
     }
 
     // Adds what a line says.
-    fn add(&mut self, fabric: &Fabric, said: TableLine) -> Result<(), TablesCause>
+    fn add(&mut self, fabric: &Fabric, said: TableLine) -> Result<(), TablesStop>
         requires fit { IsFit fabric.now self.old }
+        requires unicast { IsUnicast said }
         requires few { self.old.rows < 2 ^ 64 - 1 }
-        ensures step { LedTo result (told_of self.new) (told_with fabric.now (told_of self.old) said) }
+        ensures step { LedToOrWant result (told_of self.new) (told_with fabric.now (told_of self.old) said) }
         ensures fit { OnOk result (IsFit fabric.now self.new) }
-        ensures rows { self.new.rows ≤ self.old.rows + 1 }
+        ensures rows { OnOk result (self.new.rows ≤ self.old.rows + 1) }
     {
         match said {
             TableLine::Nothing => Ok(()),
             TableLine::Row(lid, port) => self.add_row(fabric, self.part.switch_dumped(), lid, port),
+            TableLine::ListedRow(lid, port) => self.add_row(
+                fabric,
+                self.part.switch_listed(),
+                lid,
+                port,
+            ),
             TableLine::PlainRow(lid, port) => self.add_row(
                 fabric,
                 self.part.switch_plain(),
                 lid,
                 port,
             ),
-            TableLine::Head(guid) => self.begin_dump(fabric, guid),
-            TableLine::End => self.end_dump(),
-            TableLine::PlainHead => self.begin_plain(),
-            TableLine::PlainSwitch(guid) => self.begin_rows(fabric, guid),
-            TableLine::PlainEnd => self.end_plain(),
+            TableLine::Head(guid) => or_stop(self.begin_dump(fabric, guid)),
+            TableLine::ListedHead(guid) => or_stop(self.begin_list(fabric, guid)),
+            TableLine::End => or_stop(self.end_dump()),
+            TableLine::PlainHead => or_stop(self.begin_plain()),
+            TableLine::PlainSwitch(guid) => or_stop(self.begin_rows(fabric, guid)),
+            TableLine::PlainEnd => or_stop(self.end_plain()),
         }
     }
 
@@ -215,29 +262,51 @@ impl Reading {
         switch: Result<usize, TablesCause>,
         lid: u16,
         port: u8,
-    ) -> Result<(), TablesCause>
+    ) -> Result<(), TablesStop>
         requires fit { IsFit fabric.now self.old }
+        requires unicast { lid ≤ 0xbfff }
         requires few { self.old.rows < 2 ^ 64 - 1 }
         requires here { IfOk switch (λ switch. switch_in self.old.part ≡ Some switch) }
-        ensures step { LedTo result (told_of self.new)
+        ensures step { LedToOrWant result (told_of self.new)
             (and_then switch (row_told fabric.now (told_of self.old) lid port)) }
         ensures fit { OnOk result (IsFit fabric.now self.new) }
-        ensures rows { self.new.rows ≤ self.old.rows + 1 }
+        ensures rows { OnOk result (self.new.rows ≤ self.old.rows + 1) }
     {
-        let switch = switch?;
+        let switch = match switch {
+            Ok(switch) => switch,
+            Err(cause) => return Err(Stop::Fault(cause)),
+        };
         if port == 255 {
             return Ok(());
         }
-        if fabric.owner(usize::from(lid)).is_none() {
-            self.rows += 1;
-            self.unowned += 1;
-            return Ok(());
-        }
-        if !self.cells.put(switch, usize::from(lid), port) {
-            return Err(TablesCause::PortDiffers);
+        let lid = usize::from(lid);
+        self.make_room(lid)?;
+        if !self.cells.put(switch, lid, port) {
+            return Err(Stop::Fault(TablesCause::PortDiffers));
         }
         self.rows += 1;
+        self.unowned += u64::from(fabric.owner(lid).is_none());
         Ok(())
+    }
+
+    // Makes room for a LID, if there is none.
+    #[inline]
+    fn make_room(&mut self, lid: usize) -> Result<(), OutOfMemory>
+        requires unicast { lid ≤ 0xbfff }
+        requires most { 64 * self.old.cells.blocks ≤ 0xC000 }
+        ensures room { OnOk result (lid < 64 * self.new.cells.blocks) }
+        ensures most { OnOk result (64 * self.new.cells.blocks ≤ 0xC000) }
+        ensures less { self.old.cells.blocks ≤ self.new.cells.blocks }
+        ensures switches { self.new.cells.switches ≡ self.old.cells.switches }
+        ensures same { (switch lid : ℕ) → tables_of self.new.cells switch lid ≡ tables_of self.old.cells switch lid }
+        ensures part { self.new.part ≡ self.old.part }
+        ensures rows { self.new.rows ≡ self.old.rows }
+        ensures unowned { self.new.unowned ≡ self.old.unowned }
+    {
+        if lid < 64 * self.cells.blocks() {
+            return Ok(());
+        }
+        self.cells.widen(lid + 1)
     }
 
     // Begins the table of a switch in a dump.
@@ -250,6 +319,19 @@ impl Reading {
     {
         self.part.may_begin()?;
         self.part = Part::Dumped(known(fabric, guid)?);
+        Ok(())
+    }
+
+    // Begins the table of a switch in a list.
+    fn begin_list(&mut self, fabric: &Fabric, guid: u64) -> Result<(), TablesCause>
+        requires fit { IsFit fabric.now self.old }
+        ensures step { LedTo result (told_of self.new)
+            (begins_told (told_of self.old) (rows_of (told_of self.old) Listed (switch_with fabric.now guid))) }
+        ensures fit { OnOk result (IsFit fabric.now self.new) }
+        ensures rows { KeepsRows self.old self.new }
+    {
+        self.part.may_begin()?;
+        self.part = Part::Listed(known(fabric, guid)?);
         Ok(())
     }
 

@@ -1,16 +1,16 @@
 -- What is printed so far, line by line.
 use Rattle.std.proofs.Common.{◌≡◌, ◌≢◌, ◌∙◌, sym, ap, subst, refl, ℕ, ◌+◌, ◌^◌, ◌<◌, ◌≤◌, ◌⊎◌, inl, inr, List, [], ◌∷◌, ◌++◌, append_assoc, append-nil, arith, length, get_or, slice_get, All, Option, Some, None, Result, Ok, Err, Bool, true, false, cond, ◌&&◌, ◌==◌, eqb, ltb}
 use mathlib.Core.Path.{fun_ext}
-use Rattle.std.specs.Prelude.{nat_eq, OnOk}
+use Rattle.std.specs.Prelude.{codes, if◌then◌else◌, is_none, nat_eq, OnOk}
 use Rattle.std.specs.List.{join_with_byte, position_or_len}
 use Rattle.std.specs.Map.{keys_of}
 use Rattle.std.proofs.lemmas.Bool.{cases_eq, cases_lt}
 use Rattle.std.proofs.lemmas.Bool.Decides.{nat_tests}
-use Rattle.std.proofs.lemmas.List.{get_or-map, get_or_past, length-map}
+use Rattle.std.proofs.lemmas.List.{get_or-map, length-map}
 use Rattle.std.proofs.lemmas.List.Kept.{AllPairs-from_increasing}
 use Rattle.std.proofs.lemmas.List.Sums.{position_or_len_is}
 use Rattle.std.proofs.lemmas.Option.{same_Some, slice_get-get_or}
-use Rattle.text_lines.specs.Lines.{line_text, lines_of}
+use Rattle.text_lines.specs.Lines.{line_text, lines_of, lines_text}
 use Rattle.text_lines.specs.Chains.{LeadsBy}
 use Rattle.text_lines.proofs.ChainLaws.{LeadsBy-push}
 use Rattle.text_lines.proofs.SpellLemmas.{IsWord, line_bytes, lines_of-line, no_line}
@@ -19,15 +19,16 @@ use Rattle.ib_net.specs.declared.node.EndPort.TheVariants as kind
 use Rattle.ib_net.specs.declared.node.Switch.{Switch}
 use Rattle.ib_net.specs.Fabric.{FabricOf, IsFabric, guid_in, guid_of, owner_of, switch_count, switch_with}
 use Rattle.ib_cells.specs.Cells.{CellsOf, TablesOf, port_of, tables_of, with_port}
-use Rattle.ib_tables.specs.declared.line.TableLine.TheVariants.{Head, Row, End}
+use Rattle.ib_tables.specs.declared.line.TableLine.TheVariants.{Head, Row, End, PlainHead, PlainEnd}
 use Rattle.ib_tables.specs.declared.reading.Part.{Part}
-use Rattle.ib_tables.specs.declared.reading.Part.TheVariants.{Start, Between, Dumped}
+use Rattle.ib_tables.specs.declared.reading.Part.TheVariants.{Start, Between, Dumped, Plain}
 use Rattle.ib_reader.specs.Pieces.{AreLinesOf}
-use Rattle.ib_tables.specs.Tables.{Told, AddsTo, at_part, may_begin, none_told, owned_row, told_after, told_with}
+use Rattle.ib_tables.specs.Tables.{Told, AddsTo, at_part, may_begin, may_end, none_told, row_added, told_after, told_with}
 use Rattle.ib_tables.proofs.SaidLemmas.{told_by}
-use Rattle.ib_tables_text.specs.Texts.{HasOwnedAlone, IsTextOf}
-use Rattle.ib_tables_text.specs.Printed.{HasPrinted, IsBefore, end_words, head_words, part_at, row_words}
-use Rattle.ib_tables_text.proofs.WordLemmas.{end_are, end_said, head_are, head_said, row_are, row_said}
+use Rattle.ib_tables_text.specs.Texts.{IsFilled, IsFilledUnowned, IsTextOf}
+use Rattle.ib_tables_text.specs.Printed.{HasPrinted, IsBefore, IsCountBefore, end_words, head_words, none_rows, part_at, row_words}
+use Rattle.ib_tables_text.proofs.CountLemmas.{before_next, before_or, count_add, count_all, count_end, count_skip, count_start, none_before, not_itself}
+use Rattle.ib_tables_text.proofs.WordLemmas.{end_are, end_said, head_are, head_said, plain_are, plain_end_are, plain_end_said, plain_said, row_are, row_said}
 
 -- whole lines with one more
 lines_more : (lines : List (List ℕ)) (bytes : List ℕ) (row : List (List ℕ)) → AreLinesOf lines bytes → All IsWord row → AreLinesOf (lines ++ join_with_byte 32 row ∷ []) (bytes ++ line_text row)
@@ -48,40 +49,25 @@ other_switch s l switch lid other = grind (arith, nat_tests)
 other_lid : (s l switch lid : ℕ) → l ≢ lid → (s == switch && l == lid) ≡ false
 other_lid s l switch lid other = grind (arith, nat_tests)
 
-less_or : (l lid : ℕ) → l < lid + 1 → l ≢ lid → l < lid
-less_or l lid less other = grind arith
-
 cell_or : (switch lid s l : ℕ) → ((s ≡ switch) × (l ≡ lid)) ⊎ (((s == switch && l == lid) ≡ false) × (IsBefore switch (lid + 1) s l → IsBefore switch lid s l))
 cell_or switch lid s l = elim (cases_eq s switch) [
   | inl same ↦ elim (cases_eq l lid) [
     | inl here ↦ inl (same, here)
     | inr other ↦ inr (
       other_lid s l switch lid other,
-      λ before. elim before [
-        | inl less ↦ inl less
-        | inr at ↦ inr (at.0, less_or l lid at.1 other)
+      λ before. elim (before_or switch lid s l before) [
+        | inl is ↦ is
+        | inr at ↦ absurd (other at.1)
       ],
     )
   ]
   | inr other ↦ inr (
     other_switch s l switch lid other,
-    λ before. elim before [
-      | inl less ↦ inl less
+    λ before. elim (before_or switch lid s l before) [
+      | inl is ↦ is
       | inr at ↦ absurd (other at.0)
     ],
   )
-]
-
-before_next : (switch lid s l : ℕ) → IsBefore switch lid s l → IsBefore switch (lid + 1) s l
-before_next switch lid s l before = elim before [
-  | inl less ↦ inl less
-  | inr at ↦ inr (at.0, omega arith)
-]
-
-not_itself : (switch lid : ℕ) → IsBefore switch lid switch lid → ⊥
-not_itself switch lid before = elim before [
-  | inl less ↦ absurd (omega arith)
-  | inr at ↦ (let low = at.1 in absurd (omega arith))
 ]
 
 -- tables with one port more
@@ -95,8 +81,8 @@ in_tables : (tables : TablesOf) (switch lid s l : ℕ) (found : Option ℕ) → 
 in_tables tables switch lid s l found same here is = rw (same, here) is
 
 -- what each line leads to
-row_step : (fabric : FabricOf) (told : Told) (switch lid port : ℕ) (owner : EndPort) → told.part ≡ Dumped switch → eqb port 255 ≡ false → owner_of fabric lid ≡ Some owner → told.tables switch lid ≡ None → told_with fabric told (Row lid port) ≡ Ok (owned_row told switch lid port)
-row_step fabric told switch lid port owner part not owned none = rw (part, not, owned, none) refl
+row_step : (fabric : FabricOf) (told : Told) (switch lid port : ℕ) → told.part ≡ Dumped switch → eqb port 255 ≡ false → told.tables switch lid ≡ None → told_with fabric told (Row lid port) ≡ Ok (row_added fabric told switch lid port)
+row_step fabric told switch lid port part not none = rw (part, not, none) refl
 
 head_step : (fabric : FabricOf) (told : Told) (switch guid : ℕ) → may_begin told.part ≡ Ok tt → switch_with fabric guid ≡ Some switch → told_with fabric told (Head guid) ≡ Ok (at_part told (Dumped switch))
 head_step fabric told switch guid begins known = rw (begins, known) refl
@@ -111,7 +97,7 @@ part_begins switch = elim (ltb 0 switch) as (λ b. may_begin (cond b Between Sta
   | false ↦ refl
 ]
 
-part_after : (switch : ℕ) → 0 < switch → part_at switch ≡ Between
+pub part_after : (switch : ℕ) → 0 < switch → part_at switch ≡ Between
 part_after switch some = let t : ltb 0 switch ≡ true = grind (arith, nat_tests) in rw t refl
 
 -- after an answer that is not an error
@@ -132,12 +118,16 @@ module _ (fabric : FabricOf) (tables : TablesOf) where
     told = none_told;
     good = refl;
     part_is = refl;
-    ports = λ s l before. elim before [ inl less ↦ absurd (omega arith) | inr at ↦ (let low = at.1 in absurd (omega arith)) ];
+    ports = λ s l before. absurd (none_before s l before);
     no_more = λ s l not. refl;
-    owned = refl;
+    rows = count_start (IsFilled tables);
+    unowned = count_start (IsFilledUnowned fabric tables);
   }
 
   -- a LID for which a switch has no port
+  not_filled : (switch lid : ℕ) → None ≡ tables switch lid → (port : ℕ) → tables switch lid ≡ Some port → ⊥
+  not_filled switch lid none port some = let same : None ≡ Some port = none ∙ some in absurd (cc)
+
   pub skip_printed : (bytes : List ℕ) (part : Part) (switch lid : ℕ) → None ≡ tables switch lid → HasPrinted fabric tables bytes part switch lid → HasPrinted fabric tables bytes part switch (lid + 1)
   skip_printed bytes part switch lid none had = record {
     lines = had.lines;
@@ -150,21 +140,28 @@ module _ (fabric : FabricOf) (tables : TablesOf) where
       | inr other ↦ had.ports s l (other.1 before)
     ];
     no_more = λ s l not. had.no_more s l (λ before. not (before_next switch lid s l before));
-    owned = had.owned;
+    rows = count_skip (IsFilled tables) switch lid had.told.rows (λ filled. not_filled switch lid none filled.0 filled.1) had.rows;
+    unowned = count_skip (IsFilledUnowned fabric tables) switch lid had.told.unowned (λ filled. not_filled switch lid none filled.0.0 filled.0.1) had.unowned;
   }
 
+  -- a row counts, and among those of LIDs that nobody owns if its LID is one
+  unowned_more : (switch lid port count : ℕ) (owner : Option EndPort) → owner_of fabric lid ≡ owner → tables switch lid ≡ Some port → IsCountBefore (IsFilledUnowned fabric tables) switch lid count → IsCountBefore (IsFilledUnowned fabric tables) switch (lid + 1) (if is_none owner then count + 1 else count)
+  unowned_more switch lid port count None none here had = count_add (IsFilledUnowned fabric tables) switch lid count ((port, here), none) had
+  unowned_more switch lid port count (Some owner) owns here had = count_skip (IsFilledUnowned fabric tables) switch lid count (λ filled. (let same : Some owner ≡ None = sym owns ∙ filled.1 in absurd (cc))) had
+
   -- a row
-  row_of : (bytes : List ℕ) (switch lid port : ℕ) (owner : EndPort) → lid < 0xC000 → port < 255 → owner_of fabric lid ≡ Some owner → Some port ≡ tables switch lid → HasPrinted fabric tables bytes (Dumped switch) switch lid → HasPrinted fabric tables (bytes ++ line_text (row_words lid port)) (Dumped switch) switch (lid + 1)
-  row_of bytes switch lid port owner low small owned here had =
+  row_of : (bytes : List ℕ) (switch lid port : ℕ) → lid < 0xC000 → port < 255 → Some port ≡ tables switch lid → HasPrinted fabric tables bytes (Dumped switch) switch lid → HasPrinted fabric tables (bytes ++ line_text (row_words lid port)) (Dumped switch) switch (lid + 1)
+  row_of bytes switch lid port low small here had =
       let line = join_with_byte 32 (row_words lid port) in
       let not : eqb port 255 ≡ false = grind (arith, nat_tests) in
       let none = had.no_more switch lid (not_itself switch lid) in
-      let step = told_by fabric had.told line (Row lid port) (row_said lid port low (omega arith)) ∙ row_step fabric had.told switch lid port owner had.part_is not owned none in
+      let after = row_added fabric had.told switch lid port in
+      let step = told_by fabric had.told line (Row lid port) (row_said lid port low (omega arith)) ∙ row_step fabric had.told switch lid port had.part_is not none in
       record {
         lines = had.lines ++ line ∷ [];
         whole = lines_more had.lines bytes (row_words lid port) had.whole (row_are lid port (omega arith));
-        told = owned_row had.told switch lid port;
-        good = good_more fabric had.lines had.told (owned_row had.told switch lid port) line had.good step;
+        told = after;
+        good = good_more fabric had.lines had.told after line had.good step;
         part_is = had.part_is;
         ports = λ s l before. elim (cell_or switch lid s l) [
           | inl same ↦ at_cell had.told.tables switch lid port s l same.0 same.1 ∙ sym (in_tables tables switch lid s l (Some port) same.0 same.1 (sym here))
@@ -174,21 +171,13 @@ module _ (fabric : FabricOf) (tables : TablesOf) where
           | inl same ↦ absurd (not (inr (same.0, (let e = same.1 in omega arith))))
           | inr other ↦ off_cell had.told.tables switch lid port s l other.0 ∙ had.no_more s l (λ before. not (before_next switch lid s l before))
         ];
-        owned = had.owned;
+        rows = count_add (IsFilled tables) switch lid had.told.rows (port, sym here) had.rows;
+        unowned = unowned_more switch lid port had.told.unowned (owner_of fabric lid) refl (sym here) had.unowned;
       }
 
-  -- a port is never one that says that there is none
-  owner_or : (switch lid port : ℕ) → HasOwnedAlone fabric tables → Some port ≡ tables switch lid → (owner : EndPort) × (owner_of fabric lid ≡ Some owner)
-  owner_or switch lid port alone here = go (owner_of fabric lid) refl
-    where
-      go : (o : Option EndPort) → owner_of fabric lid ≡ o → (owner : EndPort) × (owner_of fabric lid ≡ Some owner)
-      go (Some owner) is = (owner, is)
-      go None is = let same : Some port ≡ None = here ∙ alone switch lid is in absurd (cc)
-
-  pub row_printed : (old new : List ℕ) (switch lid port : ℕ) → HasOwnedAlone fabric tables → lid < 0xC000 → port < 255 → Some port ≡ tables switch lid → new ≡ old ++ line_text (row_words lid port) → HasPrinted fabric tables old (Dumped switch) switch lid → HasPrinted fabric tables new (Dumped switch) switch (lid + 1)
-  row_printed old new switch lid port alone low small here is had =
-      let owner = owner_or switch lid port alone here in
-      subst (λ (b : List ℕ). HasPrinted fabric tables b (Dumped switch) switch (lid + 1)) (sym is) (row_of old switch lid port owner.0 low small owner.1 here had)
+  pub row_printed : (old new : List ℕ) (switch lid port : ℕ) → lid < 0xC000 → port < 255 → Some port ≡ tables switch lid → new ≡ old ++ line_text (row_words lid port) → HasPrinted fabric tables old (Dumped switch) switch lid → HasPrinted fabric tables new (Dumped switch) switch (lid + 1)
+  row_printed old new switch lid port low small here is had =
+      subst (λ (b : List ℕ). HasPrinted fabric tables b (Dumped switch) switch (lid + 1)) (sym is) (row_of old switch lid port low small here had)
 
   -- a head
   pub head_printed : (old new : List ℕ) (switch guid : ℕ) → guid < 2 ^ 64 → switch_with fabric guid ≡ Some switch → new ≡ old ++ line_text (head_words guid) → HasPrinted fabric tables old (part_at switch) switch 0 → HasPrinted fabric tables new (Dumped switch) switch 0
@@ -204,15 +193,16 @@ module _ (fabric : FabricOf) (tables : TablesOf) where
         part_is = refl;
         ports = had.ports;
         no_more = had.no_more;
-        owned = had.owned;
+        rows = had.rows;
+        unowned = had.unowned;
       }
 
   -- the last line
-  no_port : HasOwnedAlone fabric tables → (s l : ℕ) → length fabric.owners ≤ l → tables s l ≡ None
-  no_port alone s l past = alone s l (get_or_past fabric.owners l None past)
+  past_none : (switch l port : ℕ) → tables switch l ≡ None → tables switch l ≡ Some port → ⊥
+  past_none switch l port none some = let same : None ≡ Some port = sym none ∙ some in absurd (cc)
 
-  pub end_printed : (old new : List ℕ) (switch lids count : ℕ) → HasOwnedAlone fabric tables → length fabric.owners ≤ lids → count < 2 ^ 64 → new ≡ old ++ line_text (end_words count) → HasPrinted fabric tables old (Dumped switch) switch lids → HasPrinted fabric tables new (part_at (switch + 1)) (switch + 1) 0
-  end_printed old new switch lids count alone past low is had =
+  pub end_printed : (old new : List ℕ) (switch lids count : ℕ) → ((s l : ℕ) → lids ≤ l → tables s l ≡ None) → count < 2 ^ 64 → new ≡ old ++ line_text (end_words count) → HasPrinted fabric tables old (Dumped switch) switch lids → HasPrinted fabric tables new (part_at (switch + 1)) (switch + 1) 0
+  end_printed old new switch lids count past low is had =
       let line = join_with_byte 32 (end_words count) in
       let after = at_part had.told Between in
       let step = told_by fabric had.told line End (end_said count low) ∙ end_step fabric had.told switch had.part_is in
@@ -227,7 +217,8 @@ module _ (fabric : FabricOf) (tables : TablesOf) where
           | inl less ↦ not (inl (omega arith))
           | inr at ↦ (let same = at.0 in not (inl (omega arith)))
         ]);
-        owned = had.owned;
+        rows = count_end (IsFilled tables) switch lids had.told.rows (λ l over filled. past_none switch l filled.0 (past switch l over) filled.1) had.rows;
+        unowned = count_end (IsFilledUnowned fabric tables) switch lids had.told.unowned (λ l over filled. past_none switch l filled.0.0 (past switch l over) filled.0.1) had.unowned;
       }
     where
       of_switch : (s l : ℕ) → s ≡ switch → had.told.tables s l ≡ tables s l
@@ -236,7 +227,7 @@ module _ (fabric : FabricOf) (tables : TablesOf) where
         | inr more ↦ had.no_more s l (λ before. elim before [
           | inl less ↦ absurd (omega arith)
           | inr at ↦ (let under = at.1 in absurd (omega arith))
-        ]) ∙ sym (no_port alone s l (omega arith))
+        ]) ∙ sym (past s l (omega arith))
       ]
 
       all_told : (s l : ℕ) → IsBefore (switch + 1) 0 s l → had.told.tables s l ≡ tables s l
@@ -249,18 +240,21 @@ module _ (fabric : FabricOf) (tables : TablesOf) where
       ]
 
   -- all of it
-  pub all_printed : (bytes : List ℕ) (count : ℕ) → 0 < count → ((s l : ℕ) → count ≤ s → tables s l ≡ None) → HasPrinted fabric tables bytes (part_at count) count 0 → IsTextOf fabric bytes tables
-  all_printed bytes count some past had = (
-    had.told.rows,
-    record {
+  pub all_printed : (bytes : List ℕ) (count : ℕ) (part : Part) → part ≡ Between → ((s l : ℕ) → count ≤ s → tables s l ≡ None) → HasPrinted fabric tables bytes part count 0 → IsTextOf fabric bytes tables
+  all_printed bytes count part last past had = record {
+    rows = had.told.rows;
+    unowned = had.told.unowned;
+    text = record {
       last = had.told;
       good = subst (λ (ls : List (List ℕ)). LeadsBy (AddsTo fabric) none_told ls had.told) (sym lines_are) had.good;
-      ended = had.part_is ∙ part_after count some;
+      ended = ap may_end (had.part_is ∙ last);
       says = fun_ext (λ s. fun_ext (λ l. sym (each s l)));
       rows_are = refl;
-      unowned_are = sym had.owned;
-    },
-  )
+      unowned_are = refl;
+    };
+    rows_are = count_all (IsFilled tables) count had.told.rows (λ s l over filled. past_none s l filled.0 (past s l over) filled.1) had.rows;
+    unowned_are = count_all (IsFilledUnowned fabric tables) count had.told.unowned (λ s l over filled. past_none s l filled.0.0 (past s l over) filled.0.1) had.unowned;
+  }
     where
       lines_are : lines_of bytes ≡ had.lines
       lines_are = ap lines_of (sym (append-nil bytes)) ∙ had.whole [] ∙ ap (λ (ls : List (List ℕ)). had.lines ++ ls) no_line ∙ append-nil had.lines
@@ -273,6 +267,28 @@ module _ (fabric : FabricOf) (tables : TablesOf) where
           | inr at ↦ (let under = at.1 in absurd (omega arith))
         ]) ∙ sym (past s l more)
       ]
+
+  -- the two lines of the text of tables of no switches
+  pub plain_printed : (bytes : List ℕ) → ((s l : ℕ) → tables s l ≡ None) → bytes ≡ lines_text none_rows → IsTextOf fabric bytes tables
+  plain_printed bytes none is =
+      let first = join_with_byte 32 (codes "tables" ∷ codes "1" ∷ []) in
+      let second = join_with_byte 32 (codes "end" ∷ []) in
+      let begun = at_part none_told Plain in
+      let ended = at_part none_told Between in
+      let one = lines_more [] [] (codes "tables" ∷ codes "1" ∷ []) (λ more. refl) plain_are in
+      let two = lines_more (first ∷ []) (line_text (codes "tables" ∷ codes "1" ∷ [])) (codes "end" ∷ []) one plain_end_are in
+      let good = good_more fabric [] none_told begun first refl (told_by fabric none_told first PlainHead plain_said) in
+      all_printed bytes 0 Between refl (λ s l low. none s l) (record {
+        lines = first ∷ second ∷ [];
+        whole = subst (λ (b : List ℕ). AreLinesOf (first ∷ second ∷ []) b) (sym is) two;
+        told = ended;
+        good = good_more fabric (first ∷ []) begun ended second good (told_by fabric begun second PlainEnd plain_end_said);
+        part_is = refl;
+        ports = λ s l before. absurd (none_before s l before);
+        no_more = λ s l not. refl;
+        rows = count_start (IsFilled tables);
+        unowned = count_start (IsFilledUnowned fabric tables);
+      })
 
 -- a switch has its GUID alone
 guid_at : (nodes : List (ℕ × Switch)) (place : ℕ) → place < length nodes → guid_in (slice_get nodes place) ≡ get_or (keys_of nodes) place 0

@@ -18,7 +18,7 @@ use Rattle.ib_words.specs.Cuts.{after, begins, cut_first}
 use Rattle.ib_words.specs.Digits.{guid, hex}
 use Rattle.ib_words.specs.Rows.{row}
 use Rattle.ib_words.proofs.RowLemmas.{four, row_is, three}
-use Rattle.ib_tables.specs.declared.line.TableLine.TheVariants.{Head, Row, End}
+use Rattle.ib_tables.specs.declared.line.TableLine.TheVariants.{Head, Row, End, PlainHead, PlainEnd}
 use Rattle.ib_tables.specs.TableLines.{head_guid, said_by, said_in}
 use Rattle.ib_tables.proofs.SaidLemmas.{said_by_words}
 use Rattle.ib_tables_text.specs.Printed.{end_words, head_words, lid_word, port_word, row_words}
@@ -145,3 +145,24 @@ end_said n low =
     let no = no_form (decimal n) (join_with_byte 32 (codes "lids" ∷ codes "dumped" ∷ [])) all (decimal_nonempty n low) in
     said_by_words (join_with_byte 32 (end_words n)) (end_words n) (omega (arith, line_short (end_words n) (end_are n low))) no.0 no.1 no.2 (sym (line_words (end_words n) (omega arith) (end_are n low)))
     ∙ end_by (decimal n) all
+
+-- what the two lines say of the text of tables of no switches
+pub plain_are : All IsWord (codes "tables" ∷ codes "1" ∷ [])
+plain_are =
+    words_cons (codes "tables") (codes "1" ∷ []) (fixed_word (codes "tables") refl (omega arith) (omega arith))
+    (words_cons (codes "1") [] (fixed_word (codes "1") refl (omega arith) (omega arith)) words_nil)
+
+pub plain_end_are : All IsWord (codes "end" ∷ [])
+plain_end_are = words_cons (codes "end") [] (fixed_word (codes "end") refl (omega arith) (omega arith)) words_nil
+
+pub plain_said : said_in (join_with_byte 32 (codes "tables" ∷ codes "1" ∷ [])) ≡ Ok PlainHead
+unfolding after
+plain_said =
+    let words = codes "tables" ∷ codes "1" ∷ [] in
+    said_by_words (join_with_byte 32 words) words (omega arith) refl refl refl (sym (line_words words (omega arith) plain_are))
+
+pub plain_end_said : said_in (join_with_byte 32 (codes "end" ∷ [])) ≡ Ok PlainEnd
+unfolding after
+plain_end_said =
+    let words = codes "end" ∷ [] in
+    said_by_words (join_with_byte 32 words) words (omega arith) refl refl refl (sym (line_words words (omega arith) plain_end_are))

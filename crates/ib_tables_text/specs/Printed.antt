@@ -9,8 +9,9 @@ use Rattle.ib_cells.specs.Cells.{TablesOf}
 use Rattle.ib_tables.specs.declared.reading.Part.{Part}
 use Rattle.ib_tables.specs.declared.reading.Part.TheVariants.{Start, Between}
 use Rattle.ib_reader.specs.Pieces.{AreLinesOf}
+use Rattle.ib_routes.specs.Counting.{IsCountOf}
 use Rattle.ib_tables.specs.Tables.{Told, none_told, AddsTo}
-use Rattle.ib_tables_text.specs.Texts.{guid_word}
+use Rattle.ib_tables_text.specs.Texts.{Cell, IsFilled, IsFilledUnowned, guid_word}
 
 -- a LID in four hexadecimal digits, a port in three decimal ones
 abbrev pub lid_word : ℕ → List ℕ
@@ -35,7 +36,12 @@ abbrev pub IsBefore : (switch lid : ℕ) → (other_switch other_lid : ℕ) → 
 IsBefore switch lid other_switch other_lid =
     (other_switch < switch) ⊎ ((other_switch ≡ switch) × (other_lid < lid))
 
--- the bytes are whole lines, the cells before this one were told and no others, and the next line stands in this part
+-- so many cells of a kind are before this one
+abbrev pub IsCountBefore : (Is : Cell → Type 0) → (switch lid count : ℕ) → Type 0
+IsCountBefore Is switch lid = IsCountOf (λ cell. IsBefore switch lid cell.switch cell.lid × Is cell)
+
+-- the bytes are whole lines, the cells before this one were told, each once, and no others, and the next line stands in
+-- this part
 pub record HasPrinted (fabric : FabricOf) (tables : TablesOf) (bytes : List ℕ) (part : Part) (switch lid : ℕ)
     : Type 0 where
   pub lines : List (List ℕ)
@@ -49,7 +55,12 @@ pub record HasPrinted (fabric : FabricOf) (tables : TablesOf) (bytes : List ℕ)
   pub no_more :
       (other_switch other_lid : ℕ) → (IsBefore switch lid other_switch other_lid → ⊥)
       → told.tables other_switch other_lid ≡ None
-  pub owned : told.unowned ≡ 0
+  pub rows : IsCountBefore (IsFilled tables) switch lid told.rows
+  pub unowned : IsCountBefore (IsFilledUnowned fabric tables) switch lid told.unowned
+
+-- the two lines of the text of tables of no switches
+abbrev pub none_rows : List (List (List ℕ))
+none_rows = (codes "tables" ∷ codes "1" ∷ []) ∷ (codes "end" ∷ []) ∷ []
 
 -- the part in which the first line of the table of a switch stands
 abbrev pub part_at : ℕ → Part

@@ -1,18 +1,31 @@
 -- What is printed of the tables of a fabric.
 
-use Rattle.std.specs.Prelude.{◌≡◌, ◌++◌, ℕ, List, None, codes}
+use Rattle.std.specs.Prelude.{◌≡◌, ◌++◌, ℕ, List, Some, None, codes}
 use Rattle.text_lines.specs.Words.{hex_text}
 use Rattle.ib_net.specs.Fabric.{FabricOf, owner_of}
 use Rattle.ib_cells.specs.Cells.{TablesOf}
+use Rattle.ib_routes.specs.Counting.{IsCountOf}
 use Rattle.ib_tables.specs.Tables.{IsTablesText}
 
--- switches have ports only for LIDs that have an owner
-abbrev pub HasOwnedAlone : FabricOf → TablesOf → Type 0
-HasOwnedAlone fabric tables = (switch lid : ℕ) → owner_of fabric lid ≡ None → tables switch lid ≡ None
+-- a switch and a LID
+pub record Cell : Type 0 where
+  pub switch : ℕ
+  pub lid : ℕ
 
--- the bytes are the text of these tables, in which no row is for a LID that nobody owns
-abbrev pub IsTextOf : FabricOf → List ℕ → TablesOf → Type 0
-IsTextOf fabric bytes tables = (rows : ℕ) × IsTablesText fabric bytes tables rows 0
+-- the switch has a port for the LID; and nobody owns the LID
+abbrev pub IsFilled : TablesOf → Cell → Type 0
+IsFilled tables cell = (port : ℕ) × (tables cell.switch cell.lid ≡ Some port)
+
+abbrev pub IsFilledUnowned : FabricOf → TablesOf → Cell → Type 0
+IsFilledUnowned fabric tables cell = IsFilled tables cell × (owner_of fabric cell.lid ≡ None)
+
+-- the bytes are the text of these tables, with one row for each port, whoever owns its LID
+pub record IsTextOf (fabric : FabricOf) (bytes : List ℕ) (tables : TablesOf) : Type 0 where
+  pub rows : ℕ
+  pub unowned : ℕ
+  pub text : IsTablesText fabric bytes tables rows unowned
+  pub rows_are : IsCountOf (IsFilled tables) rows
+  pub unowned_are : IsCountOf (IsFilledUnowned fabric tables) unowned
 
 -- a GUID in sixteen hexadecimal digits
 abbrev pub guid_word : ℕ → List ℕ

@@ -1,12 +1,12 @@
 //! The printer of tables.
 
-ghost use Rattle.std.specs.Prelude.{◌≡◌, ◌<◌, ◌≤◌, ◌+◌, ◌*◌, ◌++◌, length, OnOk, IfOk};
-ghost use Rattle.text_lines.specs.Lines.{line_text};
-ghost use Rattle.ib_net.specs.Fabric.{IsFabric, switch_count};
+ghost use Rattle.std.specs.Prelude.{◌≡◌, ◌<◌, ◌≤◌, ◌+◌, ◌*◌, ◌++◌, ℕ, None, OnOk, IfOk};
+ghost use Rattle.text_lines.specs.Lines.{line_text, lines_text};
+ghost use Rattle.ib_net.specs.Fabric.{FabricOf, IsFabric, switch_count};
 ghost use Rattle.ib_cells.specs.Cells.{tables_of};
 ghost use Rattle.ib_tables.specs.declared.reading.Part.TheVariants.{Dumped};
-ghost use Rattle.ib_tables_text.specs.Texts.{HasOwnedAlone, IsTextOf, guid_word};
-ghost use Rattle.ib_tables_text.specs.Printed.{HasPrinted, end_words, head_words, part_at, row_words};
+ghost use Rattle.ib_tables_text.specs.Texts.{IsTextOf, guid_word};
+ghost use Rattle.ib_tables_text.specs.Printed.{HasPrinted, end_words, head_words, none_rows, part_at, row_words};
 
 use an_base::memory::OutOfMemory;
 use ib_cells::cells::Cells;
@@ -15,19 +15,31 @@ use ib_net::node::EndPort;
 use std::alloc::Global;
 use text_lines::spelling::{decimal, hex_glyph, push_hex, push_line};
 
-/// The text of tables of a fabric: for each switch a head, a row for each LID for which it has a port, and a last line.
-/// The error is want of memory alone.
+/// The text of tables of a fabric: for each switch a head, a row for each LID for which it has a port, whoever owns
+/// the LID, and a last line. Of a fabric without switches it is a plain text without rows. The error is out of memory
+/// alone.
 pub fn print(alloc: Global, fabric: &Fabric, cells: &Cells) -> Result<Vec<u8>, OutOfMemory>
-    requires some { 0 < switch_count fabric.now }
     requires same { switch_count fabric.now ≡ cells.now.switches }
-    requires lids { length fabric.now.owners ≤ 64 * cells.now.blocks }
-    requires owned { HasOwnedAlone fabric.now (tables_of cells.now) }
+    requires lids { 64 * cells.now.blocks ≤ 0xC000 }
     ensures { IfOk result (λ text. IsTextOf fabric.now text.items (tables_of cells.now)) }
 {
+    if fabric.switches() == 0 {
+        return print_none(alloc);
+    }
     let mut text = Vec::new(alloc);
     'switches: for switch in 0..fabric.switches() {
         push_table(alloc, &mut text, fabric, cells, switch)?;
     }
+    Ok(text)
+}
+
+// The text of tables of no switches.
+fn print_none(alloc: Global) -> Result<Vec<u8>, OutOfMemory>
+    ensures { IfOk result (λ text. text.items ≡ lines_text none_rows) }
+{
+    let mut text = Vec::new(alloc);
+    push_line(&mut text, &[b"tables", b"1"])?;
+    push_line(&mut text, &[b"end"])?;
     Ok(text)
 }
 
@@ -42,33 +54,27 @@ fn push_table(
     requires fabric { IsFabric fabric.now }
     requires switch { switch < switch_count fabric.now }
     requires same { switch_count fabric.now ≡ cells.now.switches }
-    requires lids { length fabric.now.owners ≤ 64 * cells.now.blocks }
-    requires owned { HasOwnedAlone fabric.now (tables_of cells.now) }
+    requires lids { 64 * cells.now.blocks ≤ 0xC000 }
     ensures { OnOk result (HasPrinted fabric.now (tables_of cells.now) text.old.items (part_at switch) switch 0
         → HasPrinted fabric.now (tables_of cells.now) text.new.items (part_at (switch + 1)) (switch + 1) 0) }
 {
     let guid = fabric.guid(EndPort::Switch(switch as u32));
     push_head(alloc, text, guid)?;
-    push_rows(text, fabric, cells, switch)?;
+    push_rows(text, cells, switch)?;
     push_end(alloc, text, fabric.lids().saturating_sub(1) as u64)
 }
 
 // Appends the rows of a switch.
-fn push_rows(
-    text: &mut Vec<u8>,
-    fabric: &Fabric,
-    cells: &Cells,
-    switch: usize,
-) -> Result<(), OutOfMemory>
-    requires fabric { IsFabric fabric.now }
+fn push_rows(text: &mut Vec<u8>, cells: &Cells, switch: usize) -> Result<(), OutOfMemory>
     requires switch { switch < cells.now.switches }
-    requires lids { length fabric.now.owners ≤ 64 * cells.now.blocks }
-    requires owned { HasOwnedAlone fabric.now (tables_of cells.now) }
-    ensures { OnOk result (HasPrinted fabric.now (tables_of cells.now) text.old.items (Dumped switch) switch 0
-        → HasPrinted fabric.now (tables_of cells.now) text.new.items (Dumped switch) switch (length fabric.now.owners)) }
+    requires lids { 64 * cells.now.blocks ≤ 0xC000 }
+    ensures past { (other lid : ℕ) → 64 * cells.now.blocks ≤ lid → tables_of cells.now other lid ≡ None }
+    ensures printed { OnOk result ((fabric : FabricOf)
+        → HasPrinted fabric (tables_of cells.now) text.old.items (Dumped switch) switch 0
+        → HasPrinted fabric (tables_of cells.now) text.new.items (Dumped switch) switch (64 * cells.now.blocks)) }
 {
-    'lids: for lid in 0..fabric.lids() {
-        push_cell(text, fabric, cells, switch, lid)?;
+    'lids: for lid in 0..64 * cells.blocks() {
+        push_cell(text, cells, switch, lid)?;
     }
     Ok(())
 }
@@ -76,18 +82,16 @@ fn push_rows(
 // Appends the row of a switch for a LID, if it has a port for it.
 fn push_cell(
     text: &mut Vec<u8>,
-    fabric: &Fabric,
     cells: &Cells,
     switch: usize,
     lid: usize,
 ) -> Result<(), OutOfMemory>
-    requires fabric { IsFabric fabric.now }
     requires switch { switch < cells.now.switches }
-    requires lid { lid < length fabric.now.owners }
-    requires lids { length fabric.now.owners ≤ 64 * cells.now.blocks }
-    requires owned { HasOwnedAlone fabric.now (tables_of cells.now) }
-    ensures { OnOk result (HasPrinted fabric.now (tables_of cells.now) text.old.items (Dumped switch) switch lid
-        → HasPrinted fabric.now (tables_of cells.now) text.new.items (Dumped switch) switch (lid + 1)) }
+    requires lid { lid < 64 * cells.now.blocks }
+    requires lids { 64 * cells.now.blocks ≤ 0xC000 }
+    ensures { OnOk result ((fabric : FabricOf)
+        → HasPrinted fabric (tables_of cells.now) text.old.items (Dumped switch) switch lid
+        → HasPrinted fabric (tables_of cells.now) text.new.items (Dumped switch) switch (lid + 1)) }
 {
     match port_of(cells, switch, lid) {
         Some(port) => push_row(text, lid as u16, port),

@@ -131,7 +131,8 @@ port_line (part.Switch guid) line = switch_port guid line
 port_line part.Adapter line = adapter_port line
 port_line part.Start line = None
 port_line part.Outside line = None
-port_line part.Dumped line = None
+port_line (part.Lmc lmc) line = None
+port_line (part.Dumped lmc) line = None
 port_line part.Plain line = None
 port_line part.Ended line = None
 

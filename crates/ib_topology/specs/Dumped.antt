@@ -1,13 +1,13 @@
 use Rattle.std.specs.Prelude.{◌||◌, ℕ, List, Option, Some, None, codes, if◌then◌else◌}
 use Rattle.ib_words.specs.Cuts.{◌>>=◌, after, cut, cut_first, cut_last}
-use Rattle.ib_words.specs.Digits.{guid, hex}
+use Rattle.ib_words.specs.Digits.{guid, hex, number_to}
 use Rattle.ib_topology.specs.declared.fact.Fact.{Fact}
 use Rattle.ib_topology.specs.declared.fact.Fact.TheVariants as fact
 use Rattle.ib_topology.specs.declared.fact.PortTold.{PortTold}
 use Rattle.ib_topology.specs.declared.fact.PortTold.TheVariants.{OfSwitch, OfHost}
 use Rattle.ib_topology.specs.declared.fact.Line.{Line}
 use Rattle.ib_topology.specs.declared.fact.Part.TheVariants as part
-use Rattle.ib_topology.specs.Facts.{telling_three}
+use Rattle.ib_topology.specs.Facts.{silent, telling_three}
 use Rattle.ib_topology.specs.Fronts.{begins}
 
 -- The lines of `opensm-subnet.lst`, one for each end of each link:
@@ -45,23 +45,24 @@ at text = do
   port ← hex word
   Some (base.0, port)
 
--- what a node of a kind is, and the port of it; the LMC is not told
-unfoldable pub told_by : (kind : List ℕ) (ports : ℕ) (guids at : ℕ × ℕ) → Option (Fact × PortTold)
-told_by kind ports guids at =
+-- What a node of a kind is, and the port of it. The lines do not tell an LMC: port 0 of a switch has 0, and all end
+-- ports of adapters and routers have the same.
+unfoldable pub told_by : (lmc : ℕ) (kind : List ℕ) (ports : ℕ) (guids at : ℕ × ℕ) → Option (Fact × PortTold)
+told_by lmc kind ports guids at =
     if begins (codes "SW") kind
     then Some (fact.Switch guids.0 ports at.0 0, OfSwitch guids.0 at.1)
     else if begins (codes "CA") kind || begins (codes "Rt") kind
-    then Some (fact.Host guids.1 at.0 0, OfHost guids.1) else None
+    then Some (fact.Host guids.1 at.0 lmc, OfHost guids.1) else None
 
 -- what one side of a line tells: of `SW Ports:24`, of what stands after ` SystemGUID:`, and of `0006 PN:01`
-unfoldable pub side : (head rest numbers : List ℕ) → Option (Fact × PortTold)
-side head rest numbers = do
+unfoldable pub side : (lmc : ℕ) (head rest numbers : List ℕ) → Option (Fact × PortTold)
+side lmc head rest numbers = do
   kind ← cut 32 head
   word ← after (codes "Ports:") kind.1
   ports ← hex word
   both ← guids rest
   place ← at numbers
-  told_by kind.0 ports both place
+  told_by lmc kind.0 ports both place
 
 -- the parts of the first side: its head, what stands after ` SystemGUID:`, and what after the description
 unfoldable pub near_parts : List ℕ → Option (List ℕ × List ℕ × List ℕ)
@@ -79,17 +80,24 @@ far_parts line = do
   Some (heads.0, heads.1, numbers.1)
 
 -- what the first side of a line tells
-unfoldable pub near_side : List ℕ → Option (Fact × PortTold)
-near_side text = do
+unfoldable pub near_side : (lmc : ℕ) → List ℕ → Option (Fact × PortTold)
+near_side lmc text = do
   parts ← near_parts text
   head ← after (codes "{ ") parts.0
-  side head parts.1 parts.2
+  side lmc head parts.1 parts.2
 
 -- what a line says: the first side is found in what stands before the second
-unfoldable pub dumped : List ℕ → Option Line
-dumped line = do
+unfoldable pub dumped : (lmc : ℕ) → List ℕ → Option Line
+dumped lmc line = do
   parts ← far_parts line
   heads ← cut_last (codes " } { ") parts.0
-  one ← near_side heads.0
-  other ← side heads.1 parts.1 parts.2
-  Some (telling_three part.Dumped one.0 other.0 (fact.Link one.1 other.1))
+  one ← near_side lmc heads.0
+  other ← side lmc heads.1 parts.1 parts.2
+  Some (telling_three (part.Dumped lmc) one.0 other.0 (fact.Link one.1 other.1))
+
+-- the LMC of all end ports of adapters and routers, which OpenSM's configuration has as `lmc 1`: 0 to 7
+unfoldable pub lmc_line : List ℕ → Option Line
+lmc_line line = do
+  word ← after (codes "lmc ") line
+  lmc ← number_to 7 word
+  Some (silent (part.Lmc lmc))

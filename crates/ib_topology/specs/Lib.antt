@@ -4,3 +4,4 @@ pub mod Discovered
 pub mod Dumped
 pub mod Plain
 pub mod Texts
+pub mod Unset

@@ -1,4 +1,4 @@
-use Rattle.std.specs.Prelude.{◌==◌, ℕ, Bool, true, false, List, length, Option, Some, codes}
+use Rattle.std.specs.Prelude.{ℕ, Bool, true, false, List, Option, Some, codes}
 use Rattle.std.specs.Prelude.{if◌then◌else◌}
 use Rattle.std.specs.Str.{bytes_eq}
 use Rattle.ib_topology.specs.declared.fact.Line.{Line}
@@ -7,17 +7,22 @@ use Rattle.ib_topology.specs.declared.fact.Part.TheVariants as part
 use Rattle.ib_topology.specs.Facts.{silent}
 use Rattle.ib_topology.specs.Fronts.{begins}
 use Rattle.ib_topology.specs.Discovered.{discovered}
-use Rattle.ib_topology.specs.Dumped.{dumped}
+use Rattle.ib_topology.specs.Dumped.{dumped, lmc_line}
 use Rattle.ib_topology.specs.Plain.{is_silent, plain, ended}
 
 -- The text of a topology: each line says something where it stands.
 
--- the first line that is not silent tells what the text is: `{` begins an `opensm-subnet.lst`, `topology 1` a
--- plain text, and any other is of `ibnetdiscover`
+-- what a line says of an `opensm-subnet.lst` of this LMC, once that is known
+abbrev pub dumped_or_silent : Part → (lmc : ℕ) → List ℕ → Option Line
+dumped_or_silent here lmc line = if is_silent line then Some (silent here) else dumped lmc line
+
+-- The first line that is not silent tells what the text is: `{` begins an `opensm-subnet.lst`, and so does
+-- `lmc N` before it. `topology 1` begins a plain text, and any other line is of `ibnetdiscover`.
 unfoldable pub first : List ℕ → Option Line
 first line =
     if is_silent line then Some (silent part.Start)
-    else if begins (codes "{") line then dumped line
+    else if begins (codes "{") line then dumped 0 line
+    else if begins (codes "lmc ") line then lmc_line line
     else if bytes_eq line (codes "topology 1") then Some (silent part.Plain)
     else discovered part.Outside line
 
@@ -27,7 +32,8 @@ says part.Start line = first line
 says part.Outside line = discovered part.Outside line
 says (part.Switch guid) line = discovered (part.Switch guid) line
 says part.Adapter line = discovered part.Adapter line
-says part.Dumped line = if length line == 0 then Some (silent part.Dumped) else dumped line
+says (part.Lmc lmc) line = dumped_or_silent (part.Lmc lmc) lmc line
+says (part.Dumped lmc) line = dumped_or_silent (part.Dumped lmc) lmc line
 says part.Plain line = plain line
 says part.Ended line = ended line
 
@@ -37,6 +43,7 @@ may_end part.Start = false
 may_end part.Outside = true
 may_end (part.Switch guid) = true
 may_end part.Adapter = true
-may_end part.Dumped = true
+may_end (part.Lmc lmc) = false
+may_end (part.Dumped lmc) = true
 may_end part.Plain = false
 may_end part.Ended = true

@@ -230,7 +230,8 @@ fn port_line(part: Part, line: &[u8]) -> Option<Line>
         Part::Adapter => adapter_port(line),
         Part::Start => None,
         Part::Outside => None,
-        Part::Dumped => None,
+        Part::Lmc { lmc: _ } => None,
+        Part::Dumped { lmc: _ } => None,
         Part::Plain => None,
         Part::Ended => None,
     }

@@ -2,12 +2,12 @@
 
 ghost use Rattle.std.specs.Prelude.{◌≡◌, Some, None, MatchOption};
 ghost use Rattle.ib_topology.specs.Dumped.{hex_then, guid_then, guids, at, told_by, side};
-ghost use Rattle.ib_topology.specs.Dumped.{near_parts, far_parts, near_side, dumped};
+ghost use Rattle.ib_topology.specs.Dumped.{near_parts, far_parts, near_side, dumped, lmc_line};
 
 use crate::fact::{Fact, Line, Part, PortTold};
 use crate::front::begins;
 use ib_words::cut::{after, cut, cut_first, cut_last};
-use ib_words::digits::{guid, hex};
+use ib_words::digits::{guid, hex, number_to};
 
 // The number in hexadecimal digits at the front of a text, up to a space, and what stands after that.
 #[tactic(auto, unfolding(crate::specs::Dumped::hex_then))]
@@ -54,10 +54,16 @@ fn at(text: &[u8]) -> Option<(u64, u64)>
     Some((base, port))
 }
 
-// What a node of a kind is, and the port of it.
+// What a node of a kind is, and the port of it. The LMC is that of an adapter or router.
 #[tactic(auto, unfolding(crate::specs::Dumped::told_by))]
-fn told_by(kind: &[u8], ports: u64, guids: (u64, u64), at: (u64, u64)) -> Option<(Fact, PortTold)>
-    ensures { result ≡ told_by kind.now ports guids at }
+fn told_by(
+    lmc: u64,
+    kind: &[u8],
+    ports: u64,
+    guids: (u64, u64),
+    at: (u64, u64),
+) -> Option<(Fact, PortTold)>
+    ensures { result ≡ told_by lmc kind.now ports guids at }
 {
     let (node, end) = guids;
     let (base, port) = at;
@@ -74,7 +80,7 @@ fn told_by(kind: &[u8], ports: u64, guids: (u64, u64), at: (u64, u64)) -> Option
         let fact = Fact::Host {
             guid: end,
             base,
-            lmc: 0,
+            lmc,
         };
         return Some((fact, PortTold::OfHost { guid: end }));
     }
@@ -84,15 +90,15 @@ fn told_by(kind: &[u8], ports: u64, guids: (u64, u64), at: (u64, u64)) -> Option
 // What one side of a line tells: of its head, of what stands after ` SystemGUID:`, and of what stands after
 // the description.
 #[tactic(auto, unfolding(crate::specs::Dumped::side))]
-fn side(head: &[u8], rest: &[u8], numbers: &[u8]) -> Option<(Fact, PortTold)>
-    ensures { result ≡ side head.now rest.now numbers.now }
+fn side(lmc: u64, head: &[u8], rest: &[u8], numbers: &[u8]) -> Option<(Fact, PortTold)>
+    ensures { result ≡ side lmc head.now rest.now numbers.now }
 {
     let (kind, word) = cut(head, b' ')?;
     let word = after(word, "Ports:")?;
     let ports = hex(word)?;
     let guids = guids(rest)?;
     let at = at(numbers)?;
-    told_by(kind, ports, guids, at)
+    told_by(lmc, kind, ports, guids, at)
 }
 
 /// The parts of the first side: its head, what stands after ` SystemGUID:`, and what after the description.
@@ -120,26 +126,36 @@ pub fn far_parts(line: &[u8]) -> Option<(&[u8], &[u8], &[u8])>
 
 // What the first side of a line tells.
 #[tactic(auto, unfolding(crate::specs::Dumped::near_side))]
-fn near_side(text: &[u8]) -> Option<(Fact, PortTold)>
-    ensures { result ≡ near_side text.now }
+fn near_side(lmc: u64, text: &[u8]) -> Option<(Fact, PortTold)>
+    ensures { result ≡ near_side lmc text.now }
 {
     let (front, guids, numbers) = near_parts(text)?;
     let head = after(front, "{ ")?;
-    side(head, guids, numbers)
+    side(lmc, head, guids, numbers)
 }
 
-/// What a line says of `opensm-subnet.lst`.
+/// What a line says of an `opensm-subnet.lst` whose end ports of adapters and routers have this LMC.
 #[tactic(auto, unfolding(crate::specs::Dumped::dumped))]
-pub fn dumped(line: &[u8]) -> Option<Line>
-    ensures { result ≡ dumped line.now }
+pub fn dumped(lmc: u64, line: &[u8]) -> Option<Line>
+    ensures { result ≡ dumped lmc line.now }
 {
     let (heads, guids, numbers) = far_parts(line)?;
     let (near, head) = cut_last(heads, " } { ")?;
-    let one = near_side(near)?;
-    let other = side(head, guids, numbers)?;
+    let one = near_side(lmc, near)?;
+    let other = side(lmc, head, guids, numbers)?;
     let link = Fact::Link {
         one: one.1,
         other: other.1,
     };
-    Some(Line::of_three(Part::Dumped, one.0, other.0, link))
+    Some(Line::of_three(Part::Dumped { lmc }, one.0, other.0, link))
+}
+
+/// The LMC of all end ports of adapters and routers, in a line of its own: `lmc` and a number from 0 to 7.
+#[tactic(auto, unfolding(crate::specs::Dumped::lmc_line))]
+pub fn lmc_line(line: &[u8]) -> Option<Line>
+    ensures { result ≡ lmc_line line.now }
+{
+    let word = after(line, "lmc ")?;
+    let lmc = number_to(word, 7)?;
+    Some(Line::silent(Part::Lmc { lmc }))
 }

@@ -15,7 +15,8 @@ pub enum PortTold {
 /// What a line tells. Numbers stand as in the text, in whatever range.
 #[derive(Clone, Copy)]
 pub enum Fact {
-    /// A switch, how many ports it has, and the LIDs of its port 0: 2 to the LMC, from the base on.
+    /// A switch, how many ports it has, and the LIDs of its port 0: 2 to the LMC, from the base on. A base of 0 or
+    /// of 65535 says that there are none.
     Switch {
         guid: u64,
         ports: u64,
@@ -68,8 +69,10 @@ pub enum Part {
     Switch { guid: u64 },
     /// There, in the section of an adapter or router.
     Adapter,
-    /// In an `opensm-subnet.lst`.
-    Dumped,
+    /// In an `opensm-subnet.lst`, before its first link, after a line that says the LMC.
+    Lmc { lmc: u64 },
+    /// In an `opensm-subnet.lst`, whose end ports of adapters and routers have this LMC.
+    Dumped { lmc: u64 },
     /// In a plain text, after its first line.
     Plain,
     /// After the last line of a plain text.

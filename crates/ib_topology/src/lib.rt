@@ -3,6 +3,7 @@
 //!
 //! It stands on `text_lines` and `ib_words`. Its contract: `reader::says` answers what a line says where it
 //! stands, at most three facts, as `specs/Discovered`, `specs/Dumped` and `specs/Plain` define it for each form.
+//! `specs/Unset` defines how many end ports of a text say that their base LID is 65535, which is none.
 #![tactic(auto)]
 
 pub mod cause;

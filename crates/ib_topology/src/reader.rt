@@ -1,10 +1,10 @@
 //! What the lines of a topology say, each by where it stands.
 
 ghost use Rattle.std.specs.Prelude.{◌≡◌};
-ghost use Rattle.ib_topology.specs.Texts.{first, says, may_end};
+ghost use Rattle.ib_topology.specs.Texts.{dumped_or_silent, first, says, may_end};
 
 use crate::discovered::discovered;
-use crate::dumped::dumped;
+use crate::dumped::{dumped, lmc_line};
 use crate::fact::{Line, Part};
 use crate::front::begins;
 use crate::plain::{ended, is_silent, plain};
@@ -22,7 +22,8 @@ pub fn may_end(part: Part) -> bool
         Part::Outside => true,
         Part::Switch { guid: _ } => true,
         Part::Adapter => true,
-        Part::Dumped => true,
+        Part::Lmc { lmc: _ } => false,
+        Part::Dumped { lmc: _ } => true,
         Part::Plain => false,
         Part::Ended => true,
     }
@@ -38,16 +39,21 @@ pub fn says(part: Part, line: &[u8]) -> Option<Line>
         Part::Outside => discovered(part, line),
         Part::Switch { guid: _ } => discovered(part, line),
         Part::Adapter => discovered(part, line),
-        Part::Dumped => {
-            if line.is_empty() {
-                Some(Line::silent(Part::Dumped))
-            } else {
-                dumped(line)
-            }
-        }
+        Part::Lmc { lmc } => dumped_or_silent(part, lmc, line),
+        Part::Dumped { lmc } => dumped_or_silent(part, lmc, line),
         Part::Plain => plain(line),
         Part::Ended => ended(line),
     }
+}
+
+// What a line says of an `opensm-subnet.lst` of this LMC, once that is known.
+fn dumped_or_silent(part: Part, lmc: u64, line: &[u8]) -> Option<Line>
+    ensures { result ≡ dumped_or_silent part lmc line.now }
+{
+    if is_silent(line) {
+        return Some(Line::silent(part));
+    }
+    dumped(lmc, line)
 }
 
 // What a line says before which only silent ones stand.
@@ -59,7 +65,10 @@ fn first(line: &[u8]) -> Option<Line>
         return Some(Line::silent(Part::Start));
     }
     if begins(line, "{") {
-        return dumped(line);
+        return dumped(0, line);
+    }
+    if begins(line, "lmc ") {
+        return lmc_line(line);
     }
     if is(line, "topology 1") {
         return Some(Line::silent(Part::Plain));

@@ -2,24 +2,16 @@
 use Rattle.std.proofs.Common.{◌≡◌, sym, subst, refl, ℕ, zero, suc, ◌+◌, ◌<◌, ◌≤◌, Some, arith}
 use Rattle.ib_cells.specs.Cells.{TablesOf}
 use Rattle.ib_net.specs.declared.node.EndPort.{EndPort}
-use Rattle.ib_net.specs.declared.node.EndPort.TheVariants as port
 use Rattle.ib_net.specs.Fabric.{FabricOf, start_of}
 use Rattle.ib_routes.specs.declared.hop.Hop.{Hop}
 use Rattle.ib_routes.specs.declared.hop.Hop.TheVariants.{On, Arrive, Stop}
 use Rattle.ib_routes.specs.declared.traffic.Traffic.{Traffic}
-use Rattle.ib_routes.specs.declared.traffic.Traffic.TheVariants.{Hosts, Lids, All}
-use Rattle.ib_routes.specs.Routes.{Channel, ComesBy, ComesTo, DependsOn, IsStopped, IsSource, IsStop, Sends, hop}
+use Rattle.ib_routes.specs.Routes.{Channel, ComesBy, ComesTo, DependsOn, IsStopped, IsStop, Sends, hop}
+use Rattle.ib_routes.proofs.StartLemmas.{sender_is, source_starts}
 use Rattle.ib_verdict.specs.Verdict.{ArrivesBy}
 
--- a source begins somewhere
-begins_at : (fabric : FabricOf) (traffic : Traffic) (source : EndPort) → IsSource fabric traffic source → (start : ℕ) × (start_of fabric source ≡ Some start)
-begins_at fabric traffic (port.Host end) is = is
-begins_at fabric Hosts (port.Switch switch) is = (switch, refl)
-begins_at fabric Lids (port.Switch switch) is = (switch, refl)
-begins_at fabric All (port.Switch switch) is = (switch, refl)
-
 module _ (fabric : FabricOf) (tables : TablesOf) (traffic : Traffic) (rank : Channel → ℕ) (fall : (channel next : Channel) → DependsOn fabric tables traffic channel next → rank next < rank channel) (kept : (lid : ℕ) (source : EndPort) → IsStopped fabric tables traffic lid source → ⊥) where
-  module _ (lid : ℕ) (source : EndPort) (sends : Sends fabric traffic lid source) (start : ℕ) (begins : start_of fabric source ≡ Some start) where
+  module _ (lid : ℕ) (source : EndPort) (sends : Sends fabric tables traffic lid source) (start : ℕ) (begins : start_of fabric source ≡ Some start) where
     comes_to : (links at : ℕ) → ComesBy fabric tables lid links start at → ComesTo fabric tables traffic lid source at
     comes_to links at comes = record { sends = sends; start = start; begins = begins; hops = links; comes = comes }
 
@@ -56,15 +48,15 @@ module _ (fabric : FabricOf) (tables : TablesOf) (traffic : Traffic) (rank : Cha
         let rest = by_channel (most + 1) 0 start out next refl is (omega arith) in
         (rest.0, (let low = rest.1 in omega arith), rest.2)
 
-  pub arrive_soon : (most : ℕ) → ((channel : Channel) → rank channel ≤ most) → (lid : ℕ) (source : EndPort) → Sends fabric traffic lid source → (links : ℕ) × (links ≤ most + 1) × ArrivesBy fabric tables lid source links
+  pub arrive_soon : (most : ℕ) → ((channel : Channel) → rank channel ≤ most) → (lid : ℕ) (source : EndPort) → Sends fabric tables traffic lid source → (links : ℕ) × (links ≤ most + 1) × ArrivesBy fabric tables lid source links
   arrive_soon most low lid source sends =
-      let start = begins_at fabric traffic source sends.is_source in
+      let start = source_starts fabric traffic source (sender_is fabric tables traffic lid source sends) in
       by_start lid source sends start.0 start.1 most low (hop fabric tables start.0 lid) refl
 
   -- with no bound of the ranks
-  pub arrive : (lid : ℕ) (source : EndPort) → Sends fabric traffic lid source → (links : ℕ) × ArrivesBy fabric tables lid source links
+  pub arrive : (lid : ℕ) (source : EndPort) → Sends fabric tables traffic lid source → (links : ℕ) × ArrivesBy fabric tables lid source links
   arrive lid source sends =
-      let start = begins_at fabric traffic source sends.is_source in
+      let start = source_starts fabric traffic source (sender_is fabric tables traffic lid source sends) in
       first start.0 start.1 (hop fabric tables start.0 lid) refl
     where
       first : (start : ℕ) → start_of fabric source ≡ Some start → (does : Hop) → hop fabric tables start lid ≡ does → (links : ℕ) × ArrivesBy fabric tables lid source links

@@ -4,3 +4,4 @@ pub mod Count
 pub mod Steps
 pub mod Judgements
 pub mod Verified
+pub mod Traffics

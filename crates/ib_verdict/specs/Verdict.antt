@@ -50,7 +50,7 @@ pub record ArrivesBy (fabric : FabricOf) (tables : TablesOf) (lid : ℕ) (source
 
 abbrev pub AllArrive : FabricOf → TablesOf → Traffic → Type 0
 AllArrive fabric tables traffic =
-    (lid : ℕ) (source : EndPort) → Sends fabric traffic lid source
+    (lid : ℕ) (source : EndPort) → Sends fabric tables traffic lid source
     → (links : ℕ) × ArrivesBy fabric tables lid source links
 
 -- the tables pass: there is no credit loop, and each route of the traffic arrives

@@ -121,7 +121,7 @@ fn verdict_on(
 /// Judges the tables of a fabric by the routes of a traffic: the ranks of the channels exactly if there is no
 /// credit loop, else the least one, with the least route that makes each of its dependencies; whether a route
 /// stops; and how many dependencies there are. If there is no credit loop and none stops, all arrive. The
-/// error is want of memory alone.
+/// error is out of memory alone.
 pub fn judge(
     alloc: Global,
     fabric: &Fabric,

@@ -6,7 +6,6 @@ ghost use Rattle.ib_cells.specs.Cells.{TablesOf};
 ghost use Rattle.ib_net.specs.declared.node.EndPort.{EndPort};
 ghost use Rattle.ib_net.specs.Fabric.{FabricOf, guid_of};
 ghost use Rattle.ib_routes.specs.declared.traffic.Traffic.{Traffic};
-ghost use Rattle.ib_routes.specs.declared.traffic.Traffic.TheVariants.{Hosts, Lids, All};
 ghost use Rattle.ib_routes.specs.Found.{IsLeastWitness, SomeIsStopped};
 ghost use Rattle.ib_routes.specs.declared.hop.Hop.TheVariants.{Arrive};
 ghost use Rattle.ib_routes.specs.Routes.{Channel, DependsOn, IsStopped, Sends, hop};
@@ -14,6 +13,7 @@ ghost use Rattle.ib_verdict.specs.Count.{IsChannelCount, IsDependencyCount, IsLi
 ghost use Rattle.ib_verdict.specs.Packets.{AllFit, AllStand, ComesFree, FirstCanGo, Leaves, Packet, QueuesOf, StandsIn};
 ghost use Rattle.ib_verdict.specs.declared.verdict.LoopChannel.{LoopChannel};
 ghost use Rattle.ib_verdict.specs.declared.verify.Verified.{Verified};
+ghost use Rattle.ib_verdict.specs.Traffics.{IsNoMore};
 ghost use Rattle.ib_verdict.specs.Verified.{Fall, IsVerified};
 ghost use Rattle.ib_verdict.specs.Verdict.{AllArrive, AreAtMost, ArrivesBy, CycleIs, HasRanks, rank_in, spots_in};
 
@@ -24,7 +24,7 @@ pub fn routes_arrive_soon()
         (source : EndPort)
         → HasRanks fabric tables traffic ranks → AreAtMost fabric ranks most
         → ((to : ℕ) (from : EndPort) → IsStopped fabric tables traffic to from → ⊥)
-        → Sends fabric traffic lid source
+        → Sends fabric tables traffic lid source
         → (links : ℕ) × (links ≤ most + 1) × ArrivesBy fabric tables lid source links }
 {}
 
@@ -77,19 +77,19 @@ pub fn ranks_that_fall()
         → Fall fabric tables traffic ranks → IsVerified fabric tables traffic ranks found → found.rise ≡ None }
 {}
 
-/// Fewer routes, fewer dependencies: what a traffic depends on, `lids` does too if it is `hosts`, and `all` in any
-/// case; so what passes for `all` passes for `lids`, and what passes for `lids` for `hosts`.
+/// Fewer routes, fewer dependencies. Of two traffics the one may stand before the other in `hosts`, `lids`, `managed`,
+/// `all`, `rows`. Then who sends by the one sends by the other too, and what depends by the one depends by the other. So
+/// what passes for the other passes for the one.
 pub fn fewer_routes_fewer_dependencies()
-    ensures lids { (fabric : FabricOf) (tables : TablesOf) (channel next : Channel)
-        → DependsOn fabric tables Hosts channel next → DependsOn fabric tables Lids channel next }
-    ensures all { (fabric : FabricOf) (tables : TablesOf) (channel next : Channel)
-        → DependsOn fabric tables Lids channel next → DependsOn fabric tables All channel next }
-    ensures hosts_pass { (fabric : FabricOf) (tables : TablesOf)
-        → HasNoCycle (DependsOn fabric tables Lids) → AllArrive fabric tables Lids
-        → HasNoCycle (DependsOn fabric tables Hosts) × AllArrive fabric tables Hosts }
-    ensures lids_pass { (fabric : FabricOf) (tables : TablesOf)
-        → HasNoCycle (DependsOn fabric tables All) → AllArrive fabric tables All
-        → HasNoCycle (DependsOn fabric tables Lids) × AllArrive fabric tables Lids }
+    ensures sends { (fabric : FabricOf) (tables : TablesOf) (one other : Traffic) (lid : ℕ) (source : EndPort)
+        → IsNoMore one other → Sends fabric tables one lid source → Sends fabric tables other lid source }
+    ensures depends { (fabric : FabricOf) (tables : TablesOf) (one other : Traffic) (channel next : Channel)
+        → IsNoMore one other
+        → DependsOn fabric tables one channel next → DependsOn fabric tables other channel next }
+    ensures passes { (fabric : FabricOf) (tables : TablesOf) (one other : Traffic)
+        → IsNoMore one other
+        → HasNoCycle (DependsOn fabric tables other) → AllArrive fabric tables other
+        → HasNoCycle (DependsOn fabric tables one) × AllArrive fabric tables one }
 {}
 
 /// Tables have one verdict: the rank of each channel is one; the least credit loop is one, and so are the LID

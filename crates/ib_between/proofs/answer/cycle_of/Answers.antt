@@ -6,7 +6,7 @@ use Rattle.ib_between.proofs.EndLemmas.{loop_is}
 use Rattle.ib_between.proofs.answer.cycle_of.Goals as goal
 
 pub returns-in-Cycle : goal.returns-in-Cycle
-returns-in-Cycle c fabric old new is = subst (λ (found : List LoopChannel). IsLoop fabric old new found) (sym c.deref.ensures.value) (loop_is fabric old new c.in-Cycle.channels.items (subst (IsVerdict fabric old new) c.in-Cycle.is is.verdict))
+returns-in-Cycle c fabric old new is = subst (λ (found : List LoopChannel). IsLoop fabric old new found) (sym c.deref.ensures.value) (loop_is fabric old new c.in-Cycle.channels.items (subst (IsVerdict fabric old new) c.in-Cycle.is is.verdict).0)
 
 pub returns-in-Ranks : goal.returns-in-Ranks
 returns-in-Ranks c fabric old new is =

@@ -1,7 +1,7 @@
 use Rattle.std.proofs.Common.{◌∙◌, ap, ℕ, List}
 use Rattle.ib_cells.specs.Cells.{tables_of}
 use Rattle.ib_lines.specs.declared.answer.Lost.{Lost}
-use Rattle.ib_lines.specs.declared.answer.Step.{Step}
+use Rattle.ib_lines.specs.declared.answer.LoopStep.{LoopStep}
 use Rattle.ib_commands.specs.Names.{mentioned, names_for}
 use Rattle.ib_commands.proofs.answer.answer_for.Goals as goal
 
@@ -9,7 +9,7 @@ pub returns : goal.returns
 returns c =
     let topology = c.args.topology.now in
     let text = ap (λ (bytes : List ℕ). names_for bytes (mentioned c.deref-2.result.now c.deref-3.result.now)) c.deref.ensures.value in
-    let cycle = ap (λ (steps : List Step). names_for topology.text.items (mentioned steps c.deref-3.result.now)) c.deref-2.ensures.value in
+    let cycle = ap (λ (steps : List LoopStep). names_for topology.text.items (mentioned steps c.deref-3.result.now)) c.deref-2.ensures.value in
     let lost = ap (λ (routes : List Lost). names_for topology.text.items (mentioned c.in_ok-cycle.cycle.items routes)) c.deref-3.ensures.value in
     record {
       read = c.read_of.ensures c.count_links-links.ensures.links;
@@ -24,5 +24,6 @@ returns c =
       cycle = c.in_ok-cycle.ensures;
       losses = c.losses_of.ensures;
       lost = c.in_ok-lost.ensures;
+      unset = c.args.topology.now.counted;
       names = c.in_ok-names.ensures ∙ text ∙ cycle ∙ lost;
     }

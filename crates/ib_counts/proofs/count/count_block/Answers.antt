@@ -17,7 +17,7 @@ bits-preserved c = record {
 }
 
 pub count_lid-counts-requires-clause-starts : goal.count_lid-counts-requires-clause-starts
-count_lid-counts-requires-clause-starts c = subst (λ (b : ℕ). AreStarts c.args.fabric.now c.args.traffic b c.args.starts.now) (let e : c.args.block ≡ (64 * c.args.block + c.bits.bit) / 64 = omega arith in e) c.requires.starts
+count_lid-counts-requires-clause-starts c = subst (λ (b : ℕ). AreStarts c.args.fabric.now (tables_of c.args.cells.now) c.args.traffic b c.args.starts.now) (let e : c.args.block ≡ (64 * c.args.block + c.bits.bit) / 64 = omega arith in e) c.requires.starts
 
 pub returns-clause-counts : goal.returns-clause-counts
 returns-clause-counts c = subst (λ (n : ℕ). AreCountsUntil c.args.fabric.now (tables_of c.args.cells.now) c.args.traffic n 0 c.bits.counts) (omega arith) c.bits.invariant.counts

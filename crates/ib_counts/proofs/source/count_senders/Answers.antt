@@ -1,14 +1,18 @@
-use Rattle.std.proofs.Common.{◌≡◌, ◌∙◌, sym, subst}
-use Rattle.ib_counts.proofs.PlaceLemmas.{senders_of}
-use Rattle.ib_routes.specs.Routes.{IsTarget}
+use Rattle.std.proofs.Common.{sym, subst, arith}
+use Rattle.ib_counts.proofs.SendLemmas.{count_heard}
+use Rattle.ib_net.specs.declared.node.EndPort.{EndPort}
+use Rattle.ib_routes.specs.declared.audience.Audience.{Audience}
+use Rattle.ib_routes.specs.declared.audience.Audience.TheVariants.{Hosts, Everyone}
+use Rattle.ib_routes.specs.Audience.{IsHeard, IsHeardFrom}
+use Rattle.ib_routes.specs.Counting.{IsCountOf}
+use Rattle.ib_routes.proofs.CountLemmas.{count_none}
 use Rattle.ib_counts.proofs.source.count_senders.Goals as goal
 
-pub returns-in-Some-clause-count : goal.returns-in-Some-clause-count
-returns-in-Some-clause-count c =
-    let is = sym c.owner.ensures ∙ c.in-Some.is in
-    let owns = c.requires.target.1 in
-    let same : c.requires.target.0 ≡ c.in-Some.owner = cc in
-    senders_of c.args.fabric.now c.args.traffic c.args.lid c.count_others.result c.in-Some.owner is (subst (IsTarget c.args.fabric.now c.args.traffic) same c.requires.target.2) c.count_others.ensures.count
+pub returns-in-Nobody-clause-count : goal.returns-in-Nobody-clause-count
+returns-in-Nobody-clause-count c = count_none EndPort (IsHeard c.args.fabric.now c.args.audience c.args.lid) (λ source heard. subst (λ (a : Audience). IsHeardFrom c.args.fabric.now a source) c.in-Nobody.is heard.is_from)
 
-pub returns-in-None-clause-count : goal.returns-in-None-clause-count
-returns-in-None-clause-count c = absurd (let is = sym c.owner.ensures ∙ c.in-None.is in let owns = c.requires.target.1 in cc)
+pub returns-in-Hosts-clause-count : goal.returns-in-Hosts-clause-count
+returns-in-Hosts-clause-count c = subst (λ (a : Audience). IsCountOf (IsHeard c.args.fabric.now a c.args.lid) c.count_but_owner.result) (sym c.in-Hosts.is) (count_heard c.args.fabric.now c.args.lid Hosts c.count_but_owner.result c.count_but_owner.ensures.count)
+
+pub returns-in-Everyone-clause-count : goal.returns-in-Everyone-clause-count
+returns-in-Everyone-clause-count c = subst (λ (a : Audience). IsCountOf (IsHeard c.args.fabric.now a c.args.lid) c.count_but_owner-in-Everyone.result) (sym c.in-Everyone.is) (count_heard c.args.fabric.now c.args.lid Everyone c.count_but_owner-in-Everyone.result c.count_but_owner-in-Everyone.ensures.count)

@@ -12,18 +12,19 @@ use Rattle.ib_lane_commands.proofs.answer.answer_for.Goals as goal
 pub returns-clause-answer : goal.returns-clause-answer
 returns-clause-answer c =
     let input = c.args.input.now in
-    let text = ap (λ (bytes : List ℕ). names_for bytes (lane_mentioned c.deref-2.result.now c.deref-3.result.now)) c.deref.ensures.value in
-    let cycle = ap (λ (steps : List LaneStep). names_for input.topology.text.items (lane_mentioned steps c.deref-3.result.now)) c.deref-2.ensures.value in
-    let lost = ap (λ (routes : List LaneLost). names_for input.topology.text.items (lane_mentioned c.in_ok-cycle.cycle.items routes)) c.deref-3.ensures.value in
+    let text = ap (λ (bytes : List ℕ). names_for bytes (lane_mentioned c.mute_for-mute.result c.deref-2.result.now c.deref-3.result.now)) c.deref.ensures.value in
+    let cycle = ap (λ (steps : List LaneStep). names_for input.topology.text.items (lane_mentioned c.mute_for-mute.result steps c.deref-3.result.now)) c.deref-2.ensures.value in
+    let lost = ap (λ (routes : List LaneLost). names_for input.topology.text.items (lane_mentioned c.mute_for-mute.result c.in_ok-cycle.cycle.items routes)) c.deref-3.ensures.value in
     record {
       read = c.read_of.ensures c.count_links-links.ensures.links;
       traffic_is = c.word_of.ensures;
       lanes = c.count.ensures.lanes;
-      levels = refl;
+      asked_is = refl;
       counts = c.in_ok-counts.counts;
       counted = c.in_ok-counts.ensures;
       routes = c.routes_of.ensures;
       silent = refl;
+      mute = c.mute_for-mute.ensures;
       channels = subst (λ (n : ℕ). IsLaneChannelCount input.topology.fabric n c.args.judged.now.channels) (sym c.count.ensures.count) c.requires.judged.channels;
       dependencies = c.requires.judged.dependencies;
       loop = c.cycle_of.result.now;
@@ -31,5 +32,6 @@ returns-clause-answer c =
       cycle = c.in_ok-cycle.ensures;
       losses = c.losses_of.ensures;
       lost = c.in_ok-lost.ensures;
+      unset = c.args.input.now.topology.counted;
       names = c.in_ok-names.ensures ∙ text ∙ cycle ∙ lost;
     }

@@ -4,7 +4,7 @@ use Rattle.ib_lane_commands.proofs.names.guids_in.Given as goal
 
 -- the nodes so far
 abbrev pub invariant-steps : goal.invariant-steps
-invariant-steps l = l.guids.keys ≡ lane_mentioned (take l.one-index l.steps) []
+invariant-steps l = l.guids.keys ≡ lane_mentioned l.fn.mute (take l.one-index l.steps) []
 
 abbrev pub invariant-lost : goal.invariant-lost
-invariant-lost l = l.guids.keys ≡ lane_mentioned l.steps (take l.route-index l.lost)
+invariant-lost l = l.guids.keys ≡ lane_mentioned l.fn.mute l.steps (take l.route-index l.lost)

@@ -13,7 +13,8 @@ use Rattle.ib_lane_counts.proofs.alike.alike_counts.Given as goal
 abbrev pub invariant-levels : goal.invariant-levels
 invariant-levels l = record {
   all : l.all.routes ≡ l.all.arrived + lane_sum_of l.all.lost;
+  unowned : l.all.unowned ≤ l.all.arrived;
   few : l.all.routes ≤ l.level * 2 ^ 40;
   counts : (fabric : FabricOf) (tables : TablesOf) (lanes : LanesOf) (traffic : Traffic) → IsFabric fabric → IsKept fabric lanes l.told → AreCounts fabric tables traffic l.counts
-      → AreCountsOf fabric tables lanes (IsBelow fabric traffic l.told l.level) l.all;
+      → AreCountsOf fabric tables lanes (IsBelow fabric tables traffic l.told l.level) l.all;
 }

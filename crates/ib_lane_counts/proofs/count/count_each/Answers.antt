@@ -1,12 +1,13 @@
-use Rattle.std.proofs.Common.{arith, length}
+use Rattle.std.proofs.Common.{◌*◌, arith}
 use Rattle.ib_cells.specs.Cells.{tables_of}
 use Rattle.ib_lane_counts.proofs.StepLemmas.{all_counts, few_lost}
+use Rattle.ib_routes.proofs.StartLemmas.{sent_low}
 use Rattle.ib_rows.specs.Lanes.{lanes_of}
 use Rattle.ib_rows.specs.Levels.{levels_of}
 use Rattle.ib_lane_counts.proofs.count.count_each.Goals as goal
 
 pub returns-clause-counts : goal.returns-clause-counts
-returns-clause-counts c = all_counts c.args.routing.now.fabric.now (tables_of c.args.routing.now.cells.now) (lanes_of c.args.routing.now.lanes.now) c.args.routing.now.traffic (levels_of c.args.routing.now.levels.now) (length c.args.routing.now.fabric.now.owners) c.count_lids.result (omega arith) c.count_lids.ensures.counts
+returns-clause-counts c = all_counts c.args.routing.now.fabric.now (tables_of c.args.routing.now.cells.now) (lanes_of c.args.routing.now.lanes.now) c.args.routing.now.traffic (levels_of c.args.routing.now.levels.now) (64 * c.args.routing.now.cells.now.blocks) c.count_lids.result (sent_low c.args.routing.now.fabric.now (tables_of c.args.routing.now.cells.now) c.args.routing.now.traffic c.args.routing.now.cells.now.blocks c.args.routing.now.owners c.count_lids.ensures.past) c.count_lids.ensures.counts
 
 pub returns-clause-few : goal.returns-clause-few
-returns-clause-few c = few_lost c.args.routing.now.fabric.now (tables_of c.args.routing.now.cells.now) (lanes_of c.args.routing.now.lanes.now) c.args.routing.now.traffic (levels_of c.args.routing.now.levels.now) (length c.args.routing.now.fabric.now.owners) c.count_lids.result (let low = c.count_lids.ensures.low in omega arith) c.count_lids.ensures.counts
+returns-clause-few c = few_lost c.args.routing.now.fabric.now (tables_of c.args.routing.now.cells.now) (lanes_of c.args.routing.now.lanes.now) c.args.routing.now.traffic (levels_of c.args.routing.now.levels.now) (64 * c.args.routing.now.cells.now.blocks) c.count_lids.result (let low = c.count_lids.ensures.low in omega arith) c.count_lids.ensures.counts

@@ -1,12 +1,14 @@
 use Rattle.std.proofs.lemmas.Bool.{iff_false}
-use Rattle.ib_lane_counts.proofs.PlaceLemmas.{begins_of}
+use Rattle.ib_lane_counts.proofs.PlaceLemmas.{begins_of, heard_is}
+use Rattle.ib_routes.specs.declared.traffic.Traffic.TheVariants.{All}
 use Rattle.ib_lane_counts.proofs.source.sender_begin.Goals as goal
 
-pub returns-then-not-sends-clause-begin : goal.returns-then-not-sends-clause-begin
-returns-then-not-sends-clause-begin c = λ sends. absurd (iff_false c.sends.ensures c.if-not-sends.true sends)
+pub returns-then-not-is_heard-clause-begin : goal.returns-then-not-is_heard-clause-begin
+returns-then-not-is_heard-clause-begin c = λ heard. absurd (iff_false c.is_heard.ensures c.if-not-is_heard.true heard)
 
 pub returns-clause-begin : goal.returns-clause-begin
-returns-clause-begin c = begins_of c.args.fabric.now c.args.traffic c.args.lid c.args.source c.begin_at.result (c.sends.ensures.0 c.if-not-sends.false) c.begin_at.ensures.begin
+returns-clause-begin c = begins_of c.args.fabric.now c.args.audience c.args.lid c.args.source c.begin_at.result (c.is_heard.ensures.0 c.if-not-is_heard.false) c.begin_at.ensures.begin
 
 pub returns-clause-within : goal.returns-clause-within
-returns-clause-within c = c.begin_at.ensures.within c.args.traffic (c.sends.ensures.0 c.if-not-sends.false).is_source
+returns-clause-within c =
+    c.begin_at.ensures.within All (heard_is c.args.fabric.now c.args.audience c.args.source (c.is_heard.ensures.0 c.if-not-is_heard.false).is_from)

@@ -1,8 +1,14 @@
-use Rattle.std.proofs.Common.{arith}
+use Rattle.std.proofs.Common.{◌∙◌, sym, ap, arith, true, false, Some, None, ℕ}
 use Rattle.std.proofs.lemmas.Result.{IfOk-weaker}
 use Rattle.ib_lines.specs.RowWords.{word_text}
 use Rattle.ib_lane_lines.proofs.LanePictureLemmas.{picture_by}
 use Rattle.ib_lane_lines.proofs.picture.print_picture.Goals as goal
 
-pub returns : goal.returns
-returns c = IfOk-weaker c.print_picture_by.result _ _ (λ text. picture_by c.args.picture.now c.as_bytes.result.now (word_text c.levels_word.result) c.len.result c.deref.result.now c.deref-2.result.now text.items c.as_bytes.ensures.value c.levels_word.ensures (omega (arith, c.len.ensures, c.args.picture.now.arrows.ok.0)) c.deref.ensures.value c.deref-2.ensures.value) c.print_picture_by.ensures
+pub returns-in-true-Some : goal.returns-in-true-Some
+returns-in-true-Some c = IfOk-weaker c.print_by-in-true-Some.result _ _ (λ text. picture_by c.args.picture.now c.as_bytes.result.now (word_text c.levels_word-levels.result) true (Some c.from.result) c.len.result text.items c.as_bytes.ensures.value c.levels_word-levels.ensures c.in-true-Some.is-0 (c.in-true-Some.is-1 ∙ ap (λ (n : ℕ). Some n) (sym c.from.ensures)) (omega (arith, c.len.ensures, c.args.picture.now.arrows.ok.0))) c.print_by-in-true-Some.ensures
+
+pub returns-in-false-None : goal.returns-in-false-None
+returns-in-false-None c = IfOk-weaker c.print_by-in-false-None.result _ _ (λ text. picture_by c.args.picture.now c.as_bytes.result.now (word_text c.levels_word-levels.result) false None c.len.result text.items c.as_bytes.ensures.value c.levels_word-levels.ensures c.in-false-None.is-0 c.in-false-None.is-1 (omega (arith, c.len.ensures, c.args.picture.now.arrows.ok.0))) c.print_by-in-false-None.ensures
+
+pub returns-in-false-Some : goal.returns-in-false-Some
+returns-in-false-Some c = IfOk-weaker c.print_by-in-false-Some.result _ _ (λ text. picture_by c.args.picture.now c.as_bytes.result.now (word_text c.levels_word-levels.result) false (Some c.from-in-false-Some.result) c.len.result text.items c.as_bytes.ensures.value c.levels_word-levels.ensures c.in-false-Some.is-0 (c.in-false-Some.is-1 ∙ ap (λ (n : ℕ). Some n) (sym c.from-in-false-Some.ensures)) (omega (arith, c.len.ensures, c.args.picture.now.arrows.ok.0))) c.print_by-in-false-Some.ensures

@@ -17,8 +17,8 @@ pub returns-in-Own : goal.returns-in-Own
 returns-in-Own c =
     let end = c.end_of.ensures in
     record {
-      hop = λ tables is. end ∙ ap lane_end_if c.is_of_switch.ensures ∙ hop_is c.args.fabric.now (lanes_of c.args.lanes.now) c.args.level c.args.lid c.args.at tables Own (sym c.in-Own.is ∙ is);
-      link = subst (IsByLaneLink c.args.fabric.now (lanes_of c.args.lanes.now) c.args.level c.args.at) (sym end) (end_link c.args.fabric.now (lanes_of c.args.lanes.now) c.args.level c.args.lid c.args.at c.is_of_switch.result);
+      hop = λ tables is. end ∙ ap lane_end_if c.ends_at_switch.ensures ∙ hop_is c.args.fabric.now (lanes_of c.args.lanes.now) c.args.level c.args.lid c.args.at tables Own (sym c.in-Own.is ∙ is);
+      link = subst (IsByLaneLink c.args.fabric.now (lanes_of c.args.lanes.now) c.args.level c.args.at) (sym end) (end_link c.args.fabric.now (lanes_of c.args.lanes.now) c.args.level c.args.lid c.args.at c.ends_at_switch.result);
     }
 
 pub returns-in-By : goal.returns-in-By

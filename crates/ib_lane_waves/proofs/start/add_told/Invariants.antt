@@ -1,6 +1,6 @@
 use Rattle.std.proofs.Common.{◌≡◌, ℕ}
 use Rattle.std.specs.Int.{bit_at}
-use Rattle.ib_rows.specs.PathLevels.{told_levels}
+use Rattle.ib_rows.specs.Levels.{levels_of}
 use Rattle.ib_lane_waves.specs.LaneBlocks.{AreSetBy}
 use Rattle.ib_lane_waves.proofs.LevelLemmas.{ToldBut}
 use Rattle.ib_lane_waves.proofs.start.add_told.Given as goal
@@ -8,7 +8,7 @@ use Rattle.ib_lane_waves.proofs.start.add_told.Given as goal
 -- the bits that are not left are set
 abbrev pub invariant-bits : goal.invariant-bits
 invariant-bits l = record {
-  set : AreSetBy l.fn.sent l.sent (ToldBut (told_levels l.told) l.source l.block l.row l.word l.left);
+  set : AreSetBy l.fn.sent l.sent (ToldBut (levels_of l.levels) l.source l.block l.row l.word l.left);
   had : (bit : ℕ) → bit_at l.left bit ≡ 1 → bit_at l.word bit ≡ 1;
 }
 

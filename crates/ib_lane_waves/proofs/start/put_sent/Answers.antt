@@ -1,6 +1,7 @@
 use Rattle.std.proofs.Common.{◌≡◌, ◌∙◌, ◌<◌, ◌+◌, ◌*◌, sym, subst, ℕ, List, None, Some, length, get_or, arith}
 use Rattle.std.proofs.lemmas.List.{get_or_default}
 use Rattle.std.proofs.lemmas.Nat.{mul-add-lt}
+use Rattle.ib_cells.specs.Cells.{tables_of}
 use Rattle.ib_net.specs.declared.node.EndPort.{EndPort}
 use Rattle.ib_rows.specs.Lanes.{lanes_of}
 use Rattle.ib_rows.specs.Levels.{levels_of}
@@ -8,7 +9,7 @@ use Rattle.ib_lane_waves.specs.LaneBlocks.{AreSetBy}
 use Rattle.ib_lane_waves.specs.LaneGates.{source_count}
 use Rattle.ib_lane_waves.proofs.GateLemmas.{gate_there}
 use Rattle.ib_lane_waves.proofs.LevelLemmas.{Told}
-use Rattle.ib_lane_waves.proofs.SentLemmas.{AreSentBelow, all_sent, sent_had, sent_more, sent_none, sent_skip, word_sends}
+use Rattle.ib_lane_waves.proofs.SentLemmas.{AreSentBelow, all_sent, sent_had, sent_more, sent_none, sent_skip}
 use Rattle.ib_lane_waves.proofs.start.put_sent.Goals as goal
 use Rattle.ib_lane_waves.proofs.start.put_sent.Goals.{in-Some, in_default}
 
@@ -20,8 +21,8 @@ pub sources-init : goal.sources-init
 sources-init c =
     let routes = c.args.routes.now in
     let routing = routes.routing in
-    subst (λ (words : List ℕ). AreSentBelow routing.fabric.now routing.traffic routes.block (levels_of routing.levels.now) c.args.gates.now.gates.items c.args.top 0 words) (sym c.clear.ensures)
-    (sent_none routing.fabric.now routing.traffic routes.block (levels_of routing.levels.now) c.args.gates.now.gates.items c.args.top (length c.args.sent.now))
+    subst (λ (words : List ℕ). AreSentBelow routing.fabric.now (tables_of routing.cells.now) routing.traffic routes.block (levels_of routing.levels.now) c.args.gates.now.gates.items c.args.top 0 words) (sym c.clear.ensures)
+    (sent_none routing.fabric.now (tables_of routing.cells.now) routing.traffic routes.block (levels_of routing.levels.now) c.args.gates.now.gates.items c.args.top (length c.args.sent.now))
 
 pub add_source-requires-clause-room : goal.add_source-requires-clause-room
 add_source-requires-clause-room c = λ lid level has.
@@ -44,16 +45,15 @@ sources-preserved c =
       | in-Some w ↦ (
           let is : get_or c.args.gates.now.gates.items c.sources.place None ≡ Some w.in-Some.gate = told ∙ w.in-Some.is in
           let there = gate_there routing.fabric.now lanes routing.traffic (source_count routing.fabric.now) c.args.gates.now.spots.items c.args.gates.now.gates.items are.all c.sources.place w.in-Some.gate low is in
-          let sends = word_sends routing.fabric.now routing.traffic routes.block c.sources.place c.targets_of-targets.result w.fresh_of-word.result c.args.owned.now low there.0 c.targets_of-targets.ensures c.requires.owned w.fresh_of-word.ensures in
-          subst (λ (words : List ℕ). AreSentBelow routing.fabric.now routing.traffic routes.block (levels_of routing.levels.now) c.args.gates.now.gates.items c.args.top (c.sources.place + 1) words) (sym w.sent-is)
-          (sent_more routing.fabric.now routing.traffic routes.block (levels_of routing.levels.now) c.args.gates.now.gates.items c.args.top c.sources.place w.in-Some.gate w.fresh_of-word.result c.sources.sent w.add_source.new.sent c.requires.top is sends
-          (sent_had routing.fabric.now routing.traffic routes.block (levels_of routing.levels.now) c.args.gates.now.gates.items c.args.top c.targets_of-targets.result c.args.owned.now c.sources.place w.in-Some.gate w.fresh_of-word.result w.stand_already-had.result w.fresh_of.result c.sources.sent w.add_source.new.sent c.targets_of-targets.ensures c.requires.owned low
-          (λ one before same. (gate_there routing.fabric.now lanes routing.traffic (source_count routing.fabric.now) c.args.gates.now.spots.items c.args.gates.now.gates.items are.all one w.in-Some.gate before same).0)
+          let sends = w.sent_by-word.ensures there.0 in
+          subst (λ (words : List ℕ). AreSentBelow routing.fabric.now (tables_of routing.cells.now) routing.traffic routes.block (levels_of routing.levels.now) c.args.gates.now.gates.items c.args.top (c.sources.place + 1) words) (sym w.sent-is)
+          (sent_more routing.fabric.now (tables_of routing.cells.now) routing.traffic routes.block (levels_of routing.levels.now) c.args.gates.now.gates.items c.args.top c.sources.place w.in-Some.gate w.sent_by-word.result c.sources.sent w.add_source.new.sent c.requires.top is sends
+          (sent_had routing.fabric.now (tables_of routing.cells.now) routing.traffic routes.block (levels_of routing.levels.now) c.args.gates.now.gates.items c.args.top c.sources.place w.in-Some.gate w.sent_by-word.result w.stand_already-had.result w.fresh_of.result c.sources.sent w.add_source.new.sent sends
           w.stand_already-had.ensures w.fresh_of.ensures c.requires.top c.sources.invariant
           (subst (λ (source : EndPort). AreSetBy c.sources.sent w.add_source.new.sent (Told (levels_of routing.levels.now) source routes.block (w.in-Some.gate * c.args.top) w.fresh_of.result)) w.source_of-source.ensures w.add_source.ensures))
           c.sources.invariant))
-      | in_default w ↦ subst (λ (words : List ℕ). AreSentBelow routing.fabric.now routing.traffic routes.block (levels_of routing.levels.now) c.args.gates.now.gates.items c.args.top (c.sources.place + 1) words) (sym w.sent-is)
-          (sent_skip routing.fabric.now routing.traffic routes.block (levels_of routing.levels.now) c.args.gates.now.gates.items c.args.top c.sources.place c.sources.sent (told ∙ w.in_default.is) c.sources.invariant)
+      | in_default w ↦ subst (λ (words : List ℕ). AreSentBelow routing.fabric.now (tables_of routing.cells.now) routing.traffic routes.block (levels_of routing.levels.now) c.args.gates.now.gates.items c.args.top (c.sources.place + 1) words) (sym w.sent-is)
+          (sent_skip routing.fabric.now (tables_of routing.cells.now) routing.traffic routes.block (levels_of routing.levels.now) c.args.gates.now.gates.items c.args.top c.sources.place c.sources.sent (told ∙ w.in_default.is) c.sources.invariant)
     ]
 
 pub returns : goal.returns
@@ -62,5 +62,5 @@ returns c =
     let routing = routes.routing in
     let are = c.requires.gates in
     let end : c.sources.place ≡ length c.args.gates.now.gates.items = (let size = are.size in omega arith) in
-    all_sent routing.fabric.now routing.traffic routes.block (levels_of routing.levels.now) c.args.gates.now.gates.items c.args.top (length c.args.gates.now.spots.items) c.sources.sent
-    (subst (λ (n : ℕ). AreSentBelow routing.fabric.now routing.traffic routes.block (levels_of routing.levels.now) c.args.gates.now.gates.items c.args.top n c.sources.sent) end c.sources.invariant)
+    all_sent routing.fabric.now (tables_of routing.cells.now) routing.traffic routes.block (levels_of routing.levels.now) c.args.gates.now.gates.items c.args.top (length c.args.gates.now.spots.items) c.sources.sent
+    (subst (λ (n : ℕ). AreSentBelow routing.fabric.now (tables_of routing.cells.now) routing.traffic routes.block (levels_of routing.levels.now) c.args.gates.now.gates.items c.args.top n c.sources.sent) end c.sources.invariant)

@@ -4,7 +4,7 @@ use Rattle.ib_net.specs.declared.node.EndPort.{EndPort}
 use Rattle.ib_cells.specs.Cells.{tables_of}
 use Rattle.ib_rows.specs.Lanes.{lanes_of}
 use Rattle.ib_rows.specs.Levels.{levels_of}
-use Rattle.ib_routes.proofs.WitnessLemmas.{owned_low}
+use Rattle.ib_routes.proofs.StartLemmas.{sent_low}
 use Rattle.ib_lane_witness.specs.Search.{Takes}
 use Rattle.ib_lane_witness.specs.Witness.{lane_channel_of}
 use Rattle.ib_lane_witness.proofs.TakeLemmas.{least_witness}
@@ -23,4 +23,4 @@ pub returns-in-Some : goal.returns-in-Some
 returns-in-Some c = least_witness c.args.routing.now.fabric.now (tables_of c.args.routing.now.cells.now) (lanes_of c.args.routing.now.lanes.now) c.args.routing.now.traffic (levels_of c.args.routing.now.levels.now) c.lids.lid (lane_channel_of c.args.channel) (lane_channel_of c.args.next) c.in-Some.source c.in-Some.level c.lids.invariant (rw c.in-Some.is at c.in_ok-found.ensures)
 
 pub returns : goal.returns
-returns c = λ lid source level takes. c.lids.invariant lid (let low = owned_low c.args.routing.now.fabric.now c.args.routing.now.traffic lid source takes.comes.sends.sends in omega arith) source (level, takes)
+returns c = λ lid source level takes. c.lids.invariant lid (let low = sent_low c.args.routing.now.fabric.now (tables_of c.args.routing.now.cells.now) c.args.routing.now.traffic c.args.routing.now.cells.now.blocks c.args.routing.now.owners c.blocks-lid-end.ensures.past lid source takes.comes.sends.sends in omega arith) source (level, takes)

@@ -1,16 +1,19 @@
-use Rattle.std.proofs.Common.{◌≡◌, ap, ℕ, arith}
+use Rattle.std.proofs.Common.{◌≡◌, ap, subst, ℕ, arith}
 use Rattle.std.specs.Int.{bit_at}
-use Rattle.std.proofs.lemmas.Bool.{iff_false}
 use Rattle.std.proofs.lemmas.Nat.Bits.{bit_at-zero}
 use Rattle.ib_cells.specs.Cells.{tables_of}
+use Rattle.ib_routes.specs.declared.audience.Audience.{Audience}
+use Rattle.ib_routes.specs.Audience.{IsHeardFrom}
 use Rattle.ib_rows.specs.Lanes.{lanes_of}
 use Rattle.ib_rows.specs.Levels.{levels_of}
 use Rattle.ib_lane_witness.specs.Witness.{lane_channel_of}
 use Rattle.ib_lane_witness.proofs.TakeLemmas.{on_of}
 use Rattle.ib_lane_witness.proofs.witness.witness_at.Goals as goal
 
-pub returns-then-not-is_target : goal.returns-then-not-is_target
-returns-then-not-is_target c = λ source (level, takes). absurd (let sends = takes.comes.sends.sends in iff_false c.is_target.ensures c.if-not-is_target.true (sends.owner, sends.owns, sends.is_target))
+pub returns-in-Nobody : goal.returns-in-Nobody
+returns-in-Nobody c = λ source (level, takes).
+    let heard = (c.audience_of-audience.ensures source).0 takes.comes.sends.sends in
+    subst (λ (a : Audience). IsHeardFrom c.args.routing.now.fabric.now a source) c.in-Nobody.is heard.is_from
 
 pub returns-then-on-eq0 : goal.returns-then-on-eq0
 returns-then-on-eq0 c = λ source (level, takes). absurd (

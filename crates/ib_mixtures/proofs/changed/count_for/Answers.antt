@@ -11,6 +11,6 @@ switches-preserved c =
     let i = c.switches.invariant in
     let sum = ap (λ (n : ℕ). c.switches.count + n) c.from-count.ensures in
     record {
-      so_far = for_more c.args.fabric.now (tables_of c.args.old.now) (tables_of c.args.new.now) c.args.lid c.switches.switch c.switches.count _ c.differs.result sum (omega arith) c.requires.sent c.differs.ensures i.so_far;
+      so_far = for_more c.args.fabric.now (tables_of c.args.old.now) (tables_of c.args.new.now) c.args.lid c.switches.switch c.switches.count _ c.differs.result sum (omega arith) c.differs.ensures i.so_far;
       few = few_more c.switches.switch c.switches.count _ c.differs.result sum i.few;
     }

@@ -3,7 +3,7 @@ use Rattle.std.proofs.lemmas.Bool.{cases_eq, cases_lt}
 use Rattle.ib_cells.specs.Cells.{tables_of}
 use Rattle.ib_routes.specs.Found.{channel_of}
 use Rattle.ib_mixtures.specs.Mixtures.{MayTakeBoth}
-use Rattle.ib_mixtures.proofs.TurnLemmas.{sent_low}
+use Rattle.ib_mixtures.proofs.TurnLemmas.{lid_low}
 use Rattle.ib_mixtures.proofs.turn.find_turn.Goals as goal
 
 pub returns-in-Some : goal.returns-in-Some
@@ -22,4 +22,4 @@ lids-preserved c lid less may = elim (cases_eq lid c.lids.lid) [
 ]
 
 pub returns : goal.returns
-returns c (lid, may) = c.lids.invariant lid (let low = sent_low c.args.fabric.now (tables_of c.args.old.now) (tables_of c.args.new.now) lid may.sent in let count = c.lids-lid-end.ensures.count in let past = c.lids-test.false in omega arith) may
+returns c (lid, may) = c.lids.invariant lid (lid_low c.args.fabric.now (tables_of c.args.old.now) (tables_of c.args.new.now) c.lids.lid (λ switch to over. c.lids_of-lid-end.ensures.past switch to (let past = c.lids-test.false in omega arith)) lid c.args.channel.switch c.args.channel.port c.args.next.switch may.first) may

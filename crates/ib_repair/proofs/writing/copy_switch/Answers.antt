@@ -1,17 +1,33 @@
-use Rattle.std.proofs.Common.{◌≢◌, rules, sym, subst, ℕ, None, inl, inr, arith}
-use Rattle.std.proofs.lemmas.Bool.{cases_eq}
-use Rattle.ib_net.specs.Fabric.{owner_of}
+use Rattle.std.proofs.Common.{refl, subst, sym, ℕ, ◌*◌, arith, inl, inr}
+use Rattle.std.proofs.lemmas.Bool.{cases_eq, cases_lt}
 use Rattle.ib_cells.specs.Cells.{tables_of}
 use Rattle.ib_repair.specs.Repaired.{HasKept}
+use Rattle.ib_repair.proofs.CopyLemmas.{filled_on}
 use Rattle.ib_repair.proofs.writing.copy_switch.Goals as goal
+
+pub lids-init : goal.lids-init
+lids-init c = record {
+  switches = refl;
+  blocks = refl;
+  kept = λ switch lid none. none;
+  here = λ lid low. absurd (omega arith);
+  filled = λ switch lid. inl refl;
+}
 
 pub lids-preserved : goal.lids-preserved
 lids-preserved c = record {
-  tables = search rules;
-  kept = search rules;
+  switches = cc;
+  blocks = cc;
+  kept = λ switch lid none. c.lids.invariant.kept switch lid (c.copy_cell.ensures.kept switch lid none);
   here = λ lid low. elim (cases_eq lid c.lids.lid) [
-    | inl same ↦ subst (λ (l : ℕ). owner_of c.args.fabric.now l ≢ None → HasKept (tables_of c.args.given.now) (tables_of c.copy_cell.new.made) c.args.switch l) (sym same) c.copy_cell.ensures.here
-    | inr differs ↦ λ owned none. c.lids.invariant.here lid (omega arith) owned (c.copy_cell.ensures.kept c.args.switch lid none)
+    | inl same ↦ subst (λ (l : ℕ). HasKept (tables_of c.args.given.now) (tables_of c.copy_cell.new.made) c.args.switch l) (sym same) c.copy_cell.ensures.here
+    | inr differs ↦ λ none. c.lids.invariant.here lid (omega arith) (c.copy_cell.ensures.kept c.args.switch lid none)
   ];
-  part = λ was. c.copy_cell.ensures.part (c.lids.invariant.part was);
+  filled = filled_on (tables_of c.args.given.now) (tables_of c.args.made.now) (tables_of c.lids.made) (tables_of c.copy_cell.new.made) c.lids.invariant.filled c.copy_cell.ensures.filled;
 }
+
+pub returns-clause-here : goal.returns-clause-here
+returns-clause-here c lid none = elim (cases_lt lid (64 * c.args.given.now.blocks)) [
+  | inl low ↦ c.lids.invariant.here lid (omega arith) none
+  | inr past ↦ c.blocks-lid-end.ensures.past c.args.switch lid past
+]

@@ -1,20 +1,34 @@
-use Rattle.std.proofs.Common.{◌∙◌, refl}
+use Rattle.std.proofs.Common.{◌∙◌, refl, subst, sym, List}
+use Rattle.ib_cells.specs.Cells.{TablesOf}
+use Rattle.ib_routes.specs.Counting.{IsCountOf}
+use Rattle.ib_routing.specs.Measured.{AreMeasures}
+use Rattle.ib_repairing.specs.declared.rows.SetRow.{SetRow}
+use Rattle.ib_repairing.specs.Given.{AreToBeSet}
+use Rattle.ib_repairing.specs.Repairs.{IsSetFor}
+use Rattle.ib_repairing.proofs.SameLemmas.{set_are_made}
 use Rattle.ib_repairing.proofs.commands.given_rows.Goals as goal
 
 pub returns-clause-given : goal.returns-clause-given
-returns-clause-given c = record {
-  repaired = record { made = c.args.made.now.cells; shape = c.requires.shape; pass = c.requires.pass };
-  report = record {
-    traffic = c.in_ok-of.field-0;
-    cells = c.count_cells.result;
-    lids = c.args.made.now.lids;
-    before = c.args.made.now.before;
-    after = c.args.made.now.after;
-    rows = c.in_ok-rows_set.field-0;
-  };
-  traffic_is = c.in_ok-of.ensures ∙ c.as_bytes.ensures.value ∙ c.word_of.ensures;
-  cells = c.count_cells.ensures;
-  rows = c.in_ok-rows_set.ensures;
-  says = c.in_ok-print_report.ensures;
-  status_is = refl;
-}
+returns-clause-given c =
+    let fabric = c.args.fabric.now in
+    let given = c.args.tables.now.cells in
+    let rows = c.in_ok-rows.rows.items in
+    let set : AreToBeSet c.args.traffic fabric given rows = record { made = c.args.made.now.cells; were_made = c.requires.made; rows_are = c.in_ok-rows.ensures } in
+    record {
+      report = record {
+        traffic = c.in_ok-of.field-0;
+        cells = c.count_cells.result;
+        lids = c.in_ok-count_lids.field-0;
+        before = c.in_ok-measured.field-0;
+        after = c.in_ok-measured-2.field-0;
+        rows = c.in_ok-rows.rows;
+      };
+      to_be_set = set;
+      traffic_is = c.in_ok-of.ensures ∙ c.as_bytes.ensures.value ∙ c.word_of.ensures;
+      cells = c.count_cells.ensures;
+      lids = subst (λ (all : List SetRow). IsCountOf (IsSetFor all) c.in_ok-count_lids.field-0) c.deref.ensures.value c.in_ok-count_lids.ensures;
+      before = c.in_ok-measured.ensures;
+      after = subst (λ (tables : TablesOf). AreMeasures fabric tables c.in_ok-measured-2.field-0) (sym (set_are_made c.args.traffic fabric given rows set)) c.in_ok-measured-2.ensures;
+      says = c.in_ok-print_report.ensures;
+      status_is = refl;
+    }

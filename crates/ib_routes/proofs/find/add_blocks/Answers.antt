@@ -3,6 +3,7 @@ use Rattle.ib_cells.specs.Cells.{tables_of}
 use Rattle.ib_routes.specs.Finding.{AreFoundBelow}
 use Rattle.ib_routes.proofs.FoundLemmas.{found_none, found_more, found_all}
 use Rattle.ib_routes.proofs.RunLemmas.{graph_kept}
+use Rattle.ib_routes.proofs.StartLemmas.{sent_low}
 use Rattle.ib_routes.proofs.find.add_blocks.Goals as goal
 
 pub waves-init : goal.waves-init
@@ -17,5 +18,5 @@ waves-preserved c = record {
 pub returns : goal.returns
 returns c =
     let last : c.waves.block ≡ c.args.cells.now.blocks = omega arith in
-    found_all c.args.fabric.now (tables_of c.args.cells.now) c.args.traffic c.args.cells.now.blocks c.requires.owners c.args.graph.now c.waves.graph c.waves.stopped
+    found_all c.args.fabric.now (tables_of c.args.cells.now) c.args.traffic c.args.cells.now.blocks (sent_low c.args.fabric.now (tables_of c.args.cells.now) c.args.traffic c.args.cells.now.blocks c.requires.owners c.blocks-block-end.ensures.past) c.args.graph.now c.waves.graph c.waves.stopped
     (subst (λ (n : ℕ). AreFoundBelow c.args.fabric.now (tables_of c.args.cells.now) c.args.traffic (64 * n) c.args.graph.now c.waves.graph c.waves.stopped) last c.waves.invariant.found)

@@ -5,7 +5,8 @@ use Rattle.ib_net.specs.declared.node.EndPort.{EndPort}
 use Rattle.ib_cells.specs.Cells.{tables_of}
 use Rattle.ib_routes.specs.Found.{channel_of}
 use Rattle.ib_routes.specs.Witness.{IsLeastAt, NoSourceTakes}
-use Rattle.ib_routes.proofs.WitnessLemmas.{least_witness, owned_low}
+use Rattle.ib_routes.proofs.WitnessLemmas.{least_witness}
+use Rattle.ib_routes.proofs.StartLemmas.{sent_low}
 use Rattle.ib_routes.proofs.witness.find_witness.Goals as goal
 
 pub lids-init : goal.lids-init
@@ -21,4 +22,4 @@ pub returns-in-Some : goal.returns-in-Some
 returns-in-Some c = least_witness c.args.fabric.now (tables_of c.args.cells.now) c.args.traffic c.lids.lid (channel_of c.args.channel) (channel_of c.args.next) c.in-Some.source c.lids.invariant (subst (λ (o : Option EndPort). MatchOption o (NoSourceTakes c.args.fabric.now (tables_of c.args.cells.now) c.args.traffic c.lids.lid (channel_of c.args.channel) (channel_of c.args.next)) (IsLeastAt c.args.fabric.now (tables_of c.args.cells.now) c.args.traffic c.lids.lid (channel_of c.args.channel) (channel_of c.args.next))) c.in-Some.is c.in_ok-found.ensures)
 
 pub returns : goal.returns
-returns c = λ lid source takes. c.lids.invariant lid (let low = owned_low c.args.fabric.now c.args.traffic lid source takes.comes.sends in omega arith) source takes
+returns c = λ lid source takes. c.lids.invariant lid (let low = sent_low c.args.fabric.now (tables_of c.args.cells.now) c.args.traffic c.args.cells.now.blocks c.requires.owners c.blocks-lid-end.ensures.past lid source takes.comes.sends in omega arith) source takes

@@ -2,7 +2,7 @@ use Rattle.std.proofs.Common.{subst, ℕ, arith, inl, inr}
 use Rattle.std.proofs.lemmas.Bool.{cases_eq, iff_false}
 use Rattle.ib_net.specs.declared.node.EndPort.TheVariants.{Host}
 use Rattle.ib_cells.specs.Cells.{tables_of}
-use Rattle.ib_routes.specs.Routes.{ComesTo}
+use Rattle.ib_routes.specs.Witness.{ComesFor}
 use Rattle.ib_routes.proofs.WitnessLemmas.{host_low}
 use Rattle.ib_routes.proofs.witness.first_host.Goals as goal
 
@@ -14,7 +14,7 @@ ends-preserved c = record {
   ready = c.comes.ensures.ready;
   none = λ other low comes. elim (cases_eq other c.ends.end) [
     | inr before ↦ c.ends.invariant.none other (omega arith) comes
-    | inl same ↦ absurd (iff_false c.comes.ensures.comes c.if-comes.false (subst (λ (e : ℕ). ComesTo c.args.fabric.now (tables_of c.args.cells.now) c.args.traffic c.args.lid (Host e) c.args.via) same comes))
+    | inl same ↦ absurd (iff_false c.comes.ensures.comes c.if-comes.false (subst (λ (e : ℕ). ComesFor c.args.fabric.now (tables_of c.args.cells.now) c.args.audience c.args.lid c.args.via (Host e)) same comes))
   ];
 }
 
@@ -22,4 +22,4 @@ pub returns-then-comes-clause-first : goal.returns-then-comes-clause-first
 returns-then-comes-clause-first c = record { is = c.comes.ensures.comes.0 c.if-comes.true; first = c.ends.invariant.none }
 
 pub returns-clause-first : goal.returns-clause-first
-returns-clause-first c = λ other comes. c.ends.invariant.none other (let low = host_low c.args.fabric.now (tables_of c.args.cells.now) c.args.traffic c.args.lid c.args.via other comes in omega arith) comes
+returns-clause-first c = λ other comes. c.ends.invariant.none other (let low = host_low c.args.fabric.now (tables_of c.args.cells.now) c.args.audience c.args.lid c.args.via other comes in omega arith) comes

@@ -2,7 +2,7 @@ use Rattle.std.proofs.Common.{◌<◌, ℕ}
 use Rattle.ib_net.specs.declared.node.EndPort.TheVariants.{Host}
 use Rattle.ib_net.specs.Fabric.{switch_count}
 use Rattle.ib_cells.specs.Cells.{tables_of}
-use Rattle.ib_routes.specs.Routes.{ComesTo}
+use Rattle.ib_routes.specs.Witness.{ComesFor}
 use Rattle.ib_routes.specs.Trace.{IsReady, hop_to, way}
 use Rattle.ib_routes.proofs.witness.first_host.Given as goal
 
@@ -10,5 +10,5 @@ use Rattle.ib_routes.proofs.witness.first_host.Given as goal
 abbrev pub invariant-ends : goal.invariant-ends
 invariant-ends l = record {
   ready : IsReady (hop_to l.fabric (tables_of l.cells) (way l.lid l.via)) (switch_count l.fabric) l.marks;
-  none : (other : ℕ) → other < l.end → ComesTo l.fabric (tables_of l.cells) l.traffic l.lid (Host other) l.via → ⊥;
+  none : (other : ℕ) → other < l.end → ComesFor l.fabric (tables_of l.cells) l.audience l.lid l.via (Host other) → ⊥;
 }

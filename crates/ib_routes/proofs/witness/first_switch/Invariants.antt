@@ -2,7 +2,7 @@ use Rattle.std.proofs.Common.{◌<◌, ℕ}
 use Rattle.ib_net.specs.declared.node.EndPort.TheVariants.{Switch}
 use Rattle.ib_net.specs.Fabric.{switch_count}
 use Rattle.ib_cells.specs.Cells.{tables_of}
-use Rattle.ib_routes.specs.Routes.{ComesTo}
+use Rattle.ib_routes.specs.Witness.{ComesFor}
 use Rattle.ib_routes.specs.Trace.{IsReady, hop_to, way}
 use Rattle.ib_routes.proofs.witness.first_switch.Given as goal
 
@@ -10,5 +10,5 @@ use Rattle.ib_routes.proofs.witness.first_switch.Given as goal
 abbrev pub invariant-switches : goal.invariant-switches
 invariant-switches l = record {
   ready : IsReady (hop_to l.fabric (tables_of l.cells) (way l.lid l.via)) (switch_count l.fabric) l.marks;
-  none : (other : ℕ) → other < l.switch → ComesTo l.fabric (tables_of l.cells) l.traffic l.lid (Switch other) l.via → ⊥;
+  none : (other : ℕ) → other < l.switch → ComesFor l.fabric (tables_of l.cells) l.audience l.lid l.via (Switch other) → ⊥;
 }

@@ -1,5 +1,6 @@
 use Rattle.std.proofs.Common.{arith}
 use Rattle.ib_cells.specs.Cells.{tables_of}
+use Rattle.ib_net.specs.Fabric.{FabricOf}
 use Rattle.ib_tables.specs.declared.reading.Part.TheVariants.{Dumped}
 use Rattle.ib_tables_text.proofs.StepLemmas.{on_ok, port_low, row_printed, skip_printed}
 use Rattle.ib_tables_text.proofs.printer.push_cell.Goals as goal
@@ -7,7 +8,7 @@ use Rattle.ib_tables_text.proofs.printer.push_cell.Goals as goal
 pub returns-in-Some : goal.returns-in-Some
 returns-in-Some c =
     let low = port_low c.args.cells.now c.args.switch c.args.lid c.in-Some.port c.in-Some.ensures (omega arith) in
-    on_ok (row_printed c.args.fabric.now (tables_of c.args.cells.now) c.args.text.now.items c.push_row.new.text.items c.args.switch c.args.lid c.in-Some.port c.requires.owned (omega arith) low c.in-Some.ensures) c.push_row.result c.push_row.ensures
+    on_ok (λ is (fabric : FabricOf). row_printed fabric (tables_of c.args.cells.now) c.args.text.now.items c.push_row.new.text.items c.args.switch c.args.lid c.in-Some.port (omega arith) low c.in-Some.ensures is) c.push_row.result c.push_row.ensures
 
 pub returns-in-None : goal.returns-in-None
-returns-in-None c = skip_printed c.args.fabric.now (tables_of c.args.cells.now) c.args.text.now.items (Dumped c.args.switch) c.args.switch c.args.lid c.in-None.ensures
+returns-in-None c fabric = skip_printed fabric (tables_of c.args.cells.now) c.args.text.now.items (Dumped c.args.switch) c.args.switch c.args.lid c.in-None.ensures

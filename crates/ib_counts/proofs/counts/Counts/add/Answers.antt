@@ -6,7 +6,7 @@ use Rattle.ib_routes.specs.Routes.{EndsAs}
 use Rattle.ib_counts.proofs.counts.Counts.add.Goals as goal
 
 pub returns-in-Arrives-clause-counts : goal.returns-in-Arrives-clause-counts
-returns-in-Arrives-clause-counts c = λ traffic sends ends are. one_arrives c.args.fabric.now (tables_of c.args.cells.now) traffic c.args.lid c.args.source sends c.args.start c.requires.begins c.args.outcome ends c.in-Arrives.switches c.max-self.result c.args.self.now c.in-Arrives.is c.max-self.ensures are
+returns-in-Arrives-clause-counts c = λ traffic sends ends are. one_arrives c.args.fabric.now (tables_of c.args.cells.now) traffic c.args.lid c.args.source sends c.args.start c.requires.begins c.args.outcome ends c.in-Arrives.switches c.max-self.result c.args.self.now c.unowned_of.result c.in-Arrives.is c.max-self.ensures c.unowned_of.ensures.count are
 
 pub returns-in-Stops-clause-counts : goal.returns-in-Stops-clause-counts
 returns-in-Stops-clause-counts c = λ traffic sends ends are.

@@ -4,16 +4,11 @@ use Rattle.ib_counts.proofs.StepLemmas.{silent_counts}
 use Rattle.ib_counts.proofs.counts.Counts.add_source.Goals as goal
 
 pub returns-in_default-clause-counts : goal.returns-in_default-clause-counts
-returns-in_default-clause-counts c = silent_counts c.args.fabric.now (tables_of c.args.cells.now) c.args.traffic c.args.lid c.args.self.now c.args.source c.requires.source c.in_default.ensures.start c.requires.counts
+returns-in_default-clause-counts c = λ traffic is are. silent_counts c.args.fabric.now (tables_of c.args.cells.now) traffic c.args.lid c.args.self.now c.args.source c.requires.source (λ sends. c.in_default.ensures.start ((is c.args.source).0 sends)) are
 
 pub returns-clause-counts : goal.returns-clause-counts
-returns-clause-counts c = record {
-  exact = c.add.ensures.counts c.args.traffic c.in-Some.ensures.start.0 c.end_from-outcome.ensures.ends c.requires.counts.exact;
-  few = (let few = c.requires.counts.few in let more = c.add.ensures.routes in omega arith);
+returns-clause-counts c = λ traffic is are. record {
+  exact = c.add.ensures.counts traffic ((is c.args.source).1 c.in-Some.ensures.start.0) c.end_from-outcome.ensures.ends are.exact;
+  few = (let few = are.few in let more = c.add.ensures.routes in omega arith);
+  few_unowned = c.add.ensures.unowned;
 }
-
-pub add-requires-clause-all : goal.add-requires-clause-all
-add-requires-clause-all c = c.requires.counts.exact.all
-
-pub add-requires-clause-fits : goal.add-requires-clause-fits
-add-requires-clause-fits c = (let few = c.requires.counts.few in let low = c.requires.low in omega arith)

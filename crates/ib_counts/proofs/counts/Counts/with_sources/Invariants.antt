@@ -8,5 +8,5 @@ use Rattle.ib_counts.proofs.counts.Counts.with_sources.Given as goal
 abbrev pub invariant-places : goal.invariant-places
 invariant-places l = record {
   ready : IsReady (hop_to l.fabric (tables_of l.cells) (whole l.lid)) (switch_count l.fabric) l.marks;
-  counts : AreCountsUntil l.fabric (tables_of l.cells) l.traffic l.lid l.place l.counts;
+  counts : AreCountsUntil l.fabric (tables_of l.cells) l.fn.traffic l.lid l.place l.counts;
 }

@@ -15,6 +15,6 @@ returns c =
     record {
       answer = c.in_ok-answer.answer;
       is_answer = c.in_ok-answer.ensures.answer;
-      ends = subst (λ (n : ℕ). IsLaneEndOf fabric tables lanes c.args.self.now.traffic levels n c.status_of.result) (sym c.in_ok-answer.ensures.lanes) (c.status_of.ensures fabric tables lanes c.args.self.now.traffic levels input.lanes.count c.in_ok-judged.ensures);
+      ends = subst (λ (n : ℕ). IsLaneEndOf fabric tables lanes c.args.self.now.traffic levels n c.status_of.result) (sym c.in_ok-answer.ensures.lanes) (c.status_of.ensures fabric tables lanes c.args.self.now.traffic levels input.lanes.count c.in_ok-judged.ensures c.in_ok-answer.ensures.answer.mute);
       says = c.in_ok-print.ensures;
     }

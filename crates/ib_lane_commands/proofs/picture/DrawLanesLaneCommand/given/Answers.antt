@@ -18,6 +18,6 @@ returns c =
       is_loop = c.cycle_of.ensures fabric tables lanes traffic levels input.lanes.count c.in_ok-judged.ensures;
       picture = c.in_ok-picture.picture;
       shows = c.in_ok-picture.ensures.picture;
-      ends = subst (λ (n : ℕ). IsLaneEndOf fabric tables lanes traffic levels n c.status_of.result) (sym c.in_ok-picture.ensures.lanes) (c.status_of.ensures fabric tables lanes traffic levels input.lanes.count c.in_ok-judged.ensures);
+      ends = subst (λ (n : ℕ). IsLaneEndOf fabric tables lanes traffic levels n c.status_of.result) (sym c.in_ok-picture.ensures.lanes) (c.status_of.ensures fabric tables lanes traffic levels input.lanes.count c.in_ok-judged.ensures c.mute_in-mute.ensures);
       says = c.in_ok-print_picture.ensures;
     }

@@ -1,12 +1,16 @@
-use Rattle.std.proofs.Common.{sym}
+use Rattle.std.proofs.Common.{◌+◌, ℕ, subst, sym}
 use Rattle.ib_cells.specs.Cells.{tables_of}
+use Rattle.ib_lane_counts.specs.LaneCounts.{AreCountsOf}
+use Rattle.ib_lane_counts.specs.Steps.{IsUpTo}
 use Rattle.ib_lane_counts.proofs.StepLemmas.{not_arrived, one_arrives, one_lost}
 use Rattle.ib_rows.specs.Lanes.{lanes_of}
 use Rattle.ib_rows.specs.Levels.{levels_of}
 use Rattle.ib_lane_counts.proofs.counts.LaneCounts.add.Goals as goal
 
 pub returns-in-Arrives-clause-counts : goal.returns-in-Arrives-clause-counts
-returns-in-Arrives-clause-counts c = λ sends ends are. one_arrives c.args.routing.now.fabric.now (tables_of c.args.routing.now.cells.now) (lanes_of c.args.routing.now.lanes.now) c.args.routing.now.traffic (levels_of c.args.routing.now.levels.now) c.args.route.lid c.args.route.source c.args.route.level sends c.args.route.start c.requires.begins c.args.outcome ends c.in-Arrives.switches c.max-self.result c.args.self.now c.in-Arrives.is c.max-self.ensures are
+returns-in-Arrives-clause-counts c = λ sends ends are.
+    subst (λ (n : ℕ). AreCountsOf c.args.routing.now.fabric.now (tables_of c.args.routing.now.cells.now) (lanes_of c.args.routing.now.lanes.now) (IsUpTo c.args.routing.now c.args.route) (record { routes = c.args.self.now.routes + 1; arrived = c.args.self.now.arrived + 1; unowned = c.args.self.now.unowned + n; hops = c.max-self.result; lost = c.args.self.now.lost; silent = c.args.self.now.silent })) (sym c.unowned_of.ensures.count)
+    (one_arrives c.args.routing.now.fabric.now (tables_of c.args.routing.now.cells.now) (lanes_of c.args.routing.now.lanes.now) c.args.routing.now.traffic (levels_of c.args.routing.now.levels.now) c.args.route.lid c.args.route.source c.args.route.level sends c.args.route.start c.requires.begins c.args.outcome ends c.in-Arrives.switches c.max-self.result c.args.self.now c.in-Arrives.is c.max-self.ensures are)
 
 pub add-requires-clause-lost : goal.add-requires-clause-lost
 add-requires-clause-lost c = not_arrived c.args.outcome c.in_default.not-Arrives

@@ -18,5 +18,5 @@ pub returns-clause-counts : goal.returns-clause-counts
 returns-clause-counts c = λ fabric tables lanes traffic fits kept new are.
     let here = c.has_bit.ensures.0 c.if-not-has_bit.false in
     let bit : bit_at c.args.told c.args.level ≡ 1 = ap (bit_at c.args.told) (sym c.from-2.ensures) ∙ ap (λ (n : ℕ). bit_at n c.from-2.result) (sym c.from.ensures) ∙ here in
-    subst (AreCountsOf fabric tables lanes (IsBelow fabric traffic c.args.told (c.args.level + 1))) (sym c.with.ensures)
+    subst (AreCountsOf fabric tables lanes (IsBelow fabric tables traffic c.args.told (c.args.level + 1))) (sym c.with.ensures)
     (counts_at fabric fits tables lanes traffic c.args.told kept c.args.level c.requires.level bit c.args.self c.args.counts.now (max c.args.self.hops c.args.counts.now.hops) refl are new)

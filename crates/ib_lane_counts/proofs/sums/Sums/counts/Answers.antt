@@ -5,9 +5,9 @@ use Rattle.ib_lane_counts.proofs.ToldLemmas.{counts_told}
 use Rattle.ib_lane_counts.proofs.sums.Sums.counts.Goals as goal
 
 pub returns-clause-counts : goal.returns-clause-counts
-returns-clause-counts c = λ fabric tables lanes traffic levels fits kept are routes silent.
+returns-clause-counts c = λ fabric tables lanes traffic levels fits kept are routes unowned silent.
     subst (AreLaneCounts fabric tables lanes traffic levels) (sym (rw c.none-counts.ensures at c.add_arrived.ensures))
-    (counts_told fabric fits tables lanes traffic levels kept c.args.one.now are c.if-one.false (subst (λ (n : ℕ). IsCountOf (IsSilent fabric traffic levels) n) c.if-self-ne0.false silent) c.args.self.routes routes)
+    (counts_told fabric fits tables lanes traffic levels kept c.args.one.now are c.if-one.false (subst (λ (n : ℕ). IsCountOf (IsSilent fabric tables traffic levels) n) c.if-self-ne0.false silent) c.args.self.routes c.args.self.unowned routes unowned)
 
 pub returns-then-one-clause-none : goal.returns-then-one-clause-none
 returns-then-one-clause-none c = inl c.if-one.true

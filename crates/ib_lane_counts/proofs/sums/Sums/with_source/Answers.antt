@@ -1,7 +1,10 @@
 use Rattle.std.proofs.Common.{arith}
+use Rattle.ib_cells.specs.Cells.{tables_of}
 use Rattle.ib_lane_counts.proofs.SumLemmas.{sums_next}
+use Rattle.ib_routes.proofs.StartLemmas.{sent_low}
 use Rattle.ib_rows.specs.Levels.{levels_of}
 use Rattle.ib_lane_counts.proofs.sums.Sums.with_source.Goals as goal
 
 pub returns : goal.returns
-returns c = sums_next c.args.fabric.now c.args.traffic (levels_of c.args.levels.now) c.args.source c.requires.source c.lids.lid c.lids.sums c.lids.invariant (omega arith) (omega arith)
+returns c = sums_next c.args.routing.now.fabric.now (tables_of c.args.routing.now.cells.now) c.args.routing.now.traffic (levels_of c.args.routing.now.levels.now) c.args.source c.requires.source c.lids.lid c.lids.sums c.lids.invariant
+    (λ lid source sends. (let low = sent_low c.args.routing.now.fabric.now (tables_of c.args.routing.now.cells.now) c.args.routing.now.traffic c.args.routing.now.cells.now.blocks c.args.routing.now.owners c.blocks-lid-end.ensures.past lid source sends in omega arith)) (omega arith)

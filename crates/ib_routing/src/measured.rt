@@ -1,0 +1,35 @@
+//! How good tables are, as far as it is proved.
+
+ghost use Rattle.std.specs.Prelude.{◌≡◌, ◌≤◌, ◌*◌, length, IfOk};
+ghost use Rattle.ib_cells.specs.Cells.{tables_of};
+ghost use Rattle.ib_net.specs.Fabric.{switch_count};
+ghost use Rattle.ib_routing.specs.Measured.{AreMeasures};
+
+use an_base::memory::OutOfMemory;
+use ib_cells::cells::Cells;
+use ib_counts::count::count_routes;
+use ib_laying::measures::Measures;
+use ib_net::fabric::Fabric;
+use ib_routes::traffic::Traffic;
+use std::alloc::Global;
+
+/// How good tables are: how many routes between end ports of adapters and routers arrive, and how long the longest is, are
+/// counted anew, and the other numbers are those that were found when the tables were made. The error is out of memory
+/// alone.
+pub fn measured(
+    alloc: Global,
+    fabric: &Fabric,
+    cells: &Cells,
+    found: Measures,
+) -> Result<Measures, OutOfMemory>
+    requires same { switch_count fabric.now ≡ cells.now.switches }
+    requires owners { length fabric.now.owners ≤ 64 * cells.now.blocks }
+    ensures { IfOk result (AreMeasures fabric.now (tables_of cells.now)) }
+{
+    let counts = count_routes(alloc, fabric, cells, Traffic::Hosts)?;
+    Ok(Measures {
+        routes: counts.arrived,
+        longest: counts.hops.saturating_sub(1),
+        ..found
+    })
+}
