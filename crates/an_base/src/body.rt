@@ -5,7 +5,7 @@ ghost use Rattle.an_base.specs.declared.limits.TheConstants.{MOST_LEVEL};
 
 use crate::entry::Entries;
 use crate::life::Life;
-use crate::memory::OutOfMemory;
+use common_values::memory::OutOfMemory;
 use crate::numbers::Numbers;
 use std::alloc::Global;
 use std::marker::Model;

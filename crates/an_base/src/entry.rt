@@ -5,7 +5,7 @@ ghost use Rattle.an_base.specs.declared.limits.TheConstants.{MOST_SWITCHES};
 
 use crate::life::Life;
 use crate::links::Links;
-use crate::memory::OutOfMemory;
+use common_values::memory::OutOfMemory;
 use crate::position::Position;
 use std::alloc::Global;
 use std::cmp::Ordering;

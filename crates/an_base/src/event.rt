@@ -1,6 +1,6 @@
 //! What can happen to a network. Scripts command some of these events, and a journal tells all of them.
 
-use crate::items::Items;
+use common_values::items::Items;
 use crate::place::Place;
 use crate::port::Port;
 

@@ -7,8 +7,8 @@ ghost use Rattle.answering.specs.declared.status.Status.TheVariants as ended;
 ghost use Rattle.answering.specs.Status.{code_of, line_of};
 ghost use Rattle.answering.specs.Answer.{IsTold};
 
-use an_base::memory::OutOfMemory;
-use an_base::text::Word;
+use common_values::memory::OutOfMemory;
+use common_values::text::Word;
 use calling::end::tell;
 use itoa::Buffer;
 use journal_cause::cause::JournalCause;

@@ -2,7 +2,7 @@
 
 ghost use Rattle.std.specs.Prelude.{◌≡◌, ◌↔◌, [], ◌∷◌, IsTrue};
 
-use an_base::text::Word;
+use common_values::text::Word;
 
 /// Whether the words are one word, of these bytes.
 pub fn is_word(words: &[Word], bytes: &[u8]) -> bool

@@ -3,7 +3,7 @@
 //! It has no contract of its own: what it prints, and its status, are those of the call.
 #![tactic(auto)]
 
-use an_base::memory::OutOfMemory;
+use common_values::memory::OutOfMemory;
 use answering::status::{Status, finish};
 use calling::words::words_of_call;
 use commands::top::autonet;

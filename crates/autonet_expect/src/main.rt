@@ -3,7 +3,7 @@
 //! It has no contract of its own: what it prints, and its status, are those of the call.
 #![tactic(auto)]
 
-use an_base::memory::OutOfMemory;
+use common_values::memory::OutOfMemory;
 use answering::expect::autonet_expect;
 use answering::status::{Status, finish};
 use answering::words::is_word;

@@ -5,7 +5,7 @@ ghost use Rattle.topo_graph.specs.Topology.{IsGraph};
 ghost use Rattle.broadcast_flood.specs.Tree.{AreChildPorts, IsDown};
 ghost use Rattle.broadcast_flood.specs.Kept.{AreChildren};
 
-use an_base::memory::OutOfMemory;
+use common_values::memory::OutOfMemory;
 use an_base::row::ExitList;
 use std::alloc::Global;
 use topo_graph::graph::Graph;

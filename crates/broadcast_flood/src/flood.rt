@@ -10,7 +10,7 @@ ghost use Rattle.broadcast_flood.specs.Tree.{AreChildPortsOf, IsParentPort};
 use crate::children::children_of;
 use crate::hop::FloodHop;
 use an_base::life::Life;
-use an_base::memory::OutOfMemory;
+use common_values::memory::OutOfMemory;
 use an_base::row::ExitList;
 use std::alloc::Global;
 use std::marker::Model;

@@ -4,7 +4,7 @@ use Rattle.std.specs.Prelude.{flat_map}
 use Rattle.std.proofs.Math.Seq.{take-append-add}
 use Rattle.std.proofs.lemmas.List.{take-append-le, take-append-drop}
 use Rattle.std.proofs.lemmas.Grind.{flat_map-append}
-use Rattle.an_base.proofs.FlatMapLemmas.{flat_map-more}
+use Rattle.common_values.proofs.FlatMapLemmas.{flat_map-more}
 use Rattle.outside.specs.Told.{Told, Seen, with_back, Gains, GainsFront}
 use Rattle.outside.proofs.ToldLemmas.{with_back_twice}
 

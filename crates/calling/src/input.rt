@@ -3,7 +3,7 @@
 ghost use Rattle.std.specs.Prelude.{◌≡◌, ◌<◌, ◌≤◌, ◌+◌, ◌-◌, ◌^◌, ◌==◌, length, take, count_by, IfOk, IfErr};
 ghost use Rattle.calling.specs.Inputs.{IsInput, IsUnread};
 
-use an_base::text::Bytes;
+use common_values::text::Bytes;
 use outside::all::{ReadStop, read_all};
 use outside::source::Source;
 use std::alloc::Global;

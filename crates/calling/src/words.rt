@@ -1,7 +1,7 @@
 //! The words of a call.
 
-use an_base::memory::OutOfMemory;
-use an_base::text::Word;
+use common_values::memory::OutOfMemory;
+use common_values::text::Word;
 use std::env;
 use std::io::ErrorKind;
 use std::rt::Env;

@@ -1,6 +1,6 @@
 -- The least way down the levels is the least cycle.
 use Rattle.std.proofs.Common.{◌≡◌, sym, subst, refl, ℕ, zero, suc, true, ◌-◌, ◌<◌, ◌≤◌, List, [], ◌∷◌, ◌++◌, arith, length, Less, Equal, Greater, inl, inr}
-use Rattle.an_base.proofs.OrderLaws.{nat_apart}
+use Rattle.common_values.proofs.OrderingLemmas.{nat_apart}
 use Rattle.std.specs.Prelude.{IsTrue}
 use Rattle.std.specs.declared.cmp.Ordering.{Ordering}
 use Rattle.std.specs.Ordering.{nat_cmp, ordering_then, is_le}

@@ -2,7 +2,7 @@
 use Rattle.std.proofs.Common.{◌≡◌, ◌≢◌, ◌∙◌, sym, ap, subst, refl, ℕ, zero, suc, ◌+◌, ◌-◌, ◌<◌, ◌≤◌, List, [], ◌∷◌, arith, length, set, replicate, inl, inr}
 use Rattle.std.proofs.lemmas.Bool.{cases_eq, cases_lt}
 use Rattle.std.proofs.lemmas.List.{get_or-set_other, get_or-set_same, get_or-replicate, length-set, length-replicate}
-use Rattle.an_base.proofs.PigeonLemmas.{pigeons}
+use Rattle.common_values.proofs.PigeonLemmas.{pigeons}
 use Rattle.channel_graph.specs.Graph.{GraphOf, LeadsTo, IsNode, AreWithin, value_at}
 use Rattle.channel_graph.specs.Cycles.{Path}
 use Rattle.channel_graph.specs.Search.{Holds, FallsTo, HasBelow, AreExact, HasNoCycleFrom, IsNextBelow}

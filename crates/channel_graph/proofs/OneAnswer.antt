@@ -9,7 +9,7 @@ use Rattle.std.proofs.lemmas.Bool.{cases_lt}
 use Rattle.std.proofs.lemmas.Cmp.{lists_total}
 use Rattle.std.proofs.lemmas.List.{ext_get_or}
 use Rattle.std.proofs.lemmas.Option.{same_Some, get_or_from_slice_get, slice_get-get_or, slice_get_past}
-use Rattle.an_base.proofs.OrderingLemmas.{then_equal, tied}
+use Rattle.common_values.proofs.OrderingLemmas.{then_equal, tied}
 use Rattle.channel_graph.specs.Graph.{GraphOf, LeadsTo, IsNode}
 use Rattle.channel_graph.specs.Cycles.{HasNoCycle, IsLeastCycle, IsRank, AreRanks}
 use Rattle.channel_graph.specs.Verdict.{AreAllRanks}

@@ -4,7 +4,7 @@ use Rattle.std.specs.Prelude.{slice_get}
 use Rattle.std.proofs.lemmas.Bool.{cases_eq, cases_lt}
 use Rattle.std.proofs.lemmas.List.{get_or-replicate, length-set, length-replicate}
 use Rattle.std.proofs.lemmas.Option.{same_Some, slice_get-get_or, slice_get_past}
-use Rattle.an_base.proofs.PigeonLemmas.{pigeons}
+use Rattle.common_values.proofs.PigeonLemmas.{pigeons}
 use Rattle.channel_graph.specs.Graph.{GraphOf, LeadsTo, IsNode, AreWithin, value_at, Fall, IsFirstRise}
 use Rattle.channel_graph.specs.Cycles.{Walk, Path, HasNoCycle}
 use Rattle.channel_graph.specs.Search.{AreRising}

@@ -9,7 +9,7 @@ ghost use Rattle.channel_graph.specs.Search.{AreExact, HasBelow, HasNoCycleFrom,
 use crate::graph::Graph;
 use crate::level::guess_levels;
 use crate::table::{filled, first_fall, first_within, has_peer, value_of};
-use an_base::memory::OutOfMemory;
+use common_values::memory::OutOfMemory;
 use std::alloc::Global;
 
 // The least level of the nodes to which one leads, or u32::MAX if it leads nowhere.

@@ -6,7 +6,7 @@ ghost use Rattle.channel_graph.specs.Graph.{AreWithin, HasNoNext, IsNext, LeadsT
 ghost use Rattle.channel_graph.specs.Rows.{FindsBits, IsMasked, StandsAt};
 
 use crate::bits::{lowest, without};
-use an_base::memory::OutOfMemory;
+use common_values::memory::OutOfMemory;
 use std::alloc::Global;
 use std::marker::Model;
 

@@ -2,7 +2,7 @@
 
 use crate::graph::Graph;
 use crate::table::{filled, put, value_of};
-use an_base::memory::OutOfMemory;
+use common_values::memory::OutOfMemory;
 use std::alloc::Global;
 
 // What stands for a rank: FRESH until a walk comes to the node, OPEN while the node is on its path.

@@ -8,7 +8,7 @@ ghost use Rattle.channel_graph.specs.Verdict.{AreAllRanks};
 use crate::graph::Graph;
 use crate::ranks::first_rise;
 use crate::table::{filled, value_of};
-use an_base::memory::OutOfMemory;
+use common_values::memory::OutOfMemory;
 use std::alloc::Global;
 
 /// The ranks of all nodes of a graph in which no steps lead round: each that is too low is raised

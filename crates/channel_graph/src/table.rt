@@ -5,7 +5,7 @@ ghost use Rattle.channel_graph.specs.Graph.{value_at};
 ghost use Rattle.channel_graph.specs.Search.{FallsTo, HasNoneWithin, HasPeer, Holds, HoldsFrom, IsFirstWithin};
 
 use crate::graph::{Graph, Step};
-use an_base::memory::OutOfMemory;
+use common_values::memory::OutOfMemory;
 use std::alloc::Global;
 
 /// A table with one value for so many nodes.

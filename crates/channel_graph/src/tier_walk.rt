@@ -4,7 +4,7 @@ ghost use Rattle.std.specs.Prelude.{◌<◌, ◌^◌, IfSome};
 
 use crate::graph::Graph;
 use crate::table::{filled, put, value_of};
-use an_base::memory::OutOfMemory;
+use common_values::memory::OutOfMemory;
 use std::alloc::Global;
 
 // A node on the path of a walk in depth, the number from which on it has still to look at what the

@@ -11,7 +11,7 @@ use crate::ranks::are_ranks;
 use crate::rising::exact_ranks;
 use crate::table::first_fall;
 use crate::tier_walk::guess_tiers;
-use an_base::memory::OutOfMemory;
+use common_values::memory::OutOfMemory;
 use std::alloc::Global;
 
 /// Whether some steps of a graph lead round.

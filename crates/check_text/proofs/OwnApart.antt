@@ -17,9 +17,9 @@ use Rattle.an_base.proofs.OrderLaws.{both_least}
 use Rattle.net_graph.specs.Wires.{Wires, IsWired, network}
 use Rattle.net_graph.specs.Forest.{IsMember, IsComponent, RootsBelow}
 use Rattle.an_base.proofs.LifeLemmas.{below_same}
-use Rattle.an_base.proofs.ListLemmas.{Any-later, Any-cons_cases, Any-weaker, Any-map}
-use Rattle.an_base.proofs.PairLemmas.{AllPairs-map, AllPairs-append}
-use Rattle.an_base.proofs.FlatMapLemmas.{Any-flat_map, AllPairs-flat_map}
+use Rattle.common_values.proofs.ListLemmas.{Any-later, Any-cons_cases, Any-weaker, Any-map}
+use Rattle.common_values.proofs.PairLemmas.{AllPairs-map, AllPairs-append}
+use Rattle.common_values.proofs.FlatMapLemmas.{Any-flat_map, AllPairs-flat_map}
 use Rattle.table_script.specs.declared.table_draft.NumberAt.{NumberAt}
 use Rattle.table_script.specs.declared.table_draft.EntryAt.{EntryAt}
 use Rattle.text_lines.specs.Words.{number_value}

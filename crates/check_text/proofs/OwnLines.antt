@@ -20,7 +20,7 @@ use Rattle.an_base.specs.Values.{EntryOf, LifeId}
 use Rattle.an_base.specs.Numbers.{AreNumbers}
 use Rattle.an_base.specs.Tree.{Network, IsDistance, IsClosed}
 use Rattle.an_base.proofs.PlaceLaws.{one_level}
-use Rattle.an_base.proofs.ListLemmas.{AllPairs-head, AllPairs-tail}
+use Rattle.common_values.proofs.ListLemmas.{AllPairs-head, AllPairs-tail}
 use Rattle.net_graph.specs.Wires.{network}
 use Rattle.net_graph.specs.Forest.{IsComponent, IsMember}
 use Rattle.net_graph.proofs.FarLemmas.{far_is, network_closed}
@@ -38,8 +38,8 @@ use Rattle.switch_numbering.specs.Numbering.{numbering}
 use Rattle.topo_graph.specs.Topology.{IsGraph, nothing, entry_at, life_at}
 use Rattle.table_build.specs.Exits.{LeadsTo, Begins, may_go_up, is_entry}
 use Rattle.table_build.specs.Tables.{TableOf, IsTable, IsRow, IsBefore}
-use Rattle.an_base.proofs.PairLemmas.{AllPairs-map}
-use Rattle.an_base.proofs.PigeonLemmas.{pigeons}
+use Rattle.common_values.proofs.PairLemmas.{AllPairs-map}
+use Rattle.common_values.proofs.PigeonLemmas.{pigeons}
 use Rattle.row_text.specs.Rows.{exits_text, slashed, rows_at}
 use Rattle.check_text.proofs.OwnForms.{IsPlain, IsPrintedForm, AreParts, IsNamed}
 use Rattle.expect_text.specs.Expect.{parent_words, component_form, member_form, number_form, part_forms, expect_forms}
@@ -50,7 +50,7 @@ use Rattle.switch_numbering.proofs.Differing.{length-numbering}
 use Rattle.check_text.proofs.OwnNames.{life_named}
 use Rattle.row_text.proofs.ComponentTree.{component_tree}
 use Rattle.expect_text.proofs.PartLemmas.{component_numbering}
-use Rattle.an_base.proofs.FlatMapLemmas.{All-flat_map}
+use Rattle.common_values.proofs.FlatMapLemmas.{All-flat_map}
 
 -- THE TEXT OF A PAIR
 

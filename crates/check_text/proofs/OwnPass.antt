@@ -21,9 +21,9 @@ use Rattle.net_graph.proofs.CollectLemmas.{uid_one}
 use Rattle.net_graph.proofs.FarLemmas.{far_back}
 use Rattle.net_graph.proofs.WalkLemmas.{walk_back}
 use Rattle.net_graph.proofs.OneForest.{one_component, one_forest_of}
-use Rattle.an_base.proofs.MemberLemmas.{Contains-here, Contains-later, Contains-cons_cases, Contains-map, Any-from_map}
-use Rattle.an_base.proofs.FlatMapLemmas.{All-flat_map}
-use Rattle.an_base.proofs.ListLemmas.{AllPairs-head, AllPairs-tail, Any-map}
+use Rattle.common_values.proofs.MemberLemmas.{Contains-here, Contains-later, Contains-cons_cases, Contains-map, Any-from_map}
+use Rattle.common_values.proofs.FlatMapLemmas.{All-flat_map}
+use Rattle.common_values.proofs.ListLemmas.{AllPairs-head, AllPairs-tail, Any-map}
 use Rattle.net_graph.specs.declared.wiring.SwitchAt.{SwitchAt}
 use Rattle.table_script.specs.declared.table_draft.NumberAt.{NumberAt}
 use Rattle.net_script.specs.Rules.{place}
@@ -58,7 +58,7 @@ use Rattle.check_text.proofs.OwnApart.{own_numbers}
 use Rattle.check_text.proofs.OwnLines.{pair_says}
 use Rattle.channel_graph.proofs.OneAnswer.{no_both}
 use Rattle.table_build.proofs.MadeTables.{entry_passes, entry_low}
-use Rattle.an_base.proofs.RangeLemmas.{Contains-kept}
+use Rattle.common_values.proofs.RangeLemmas.{Contains-kept}
 use Rattle.table_build.proofs.MadeLists.{in_flat}
 
 -- LISTS

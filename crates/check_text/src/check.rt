@@ -14,10 +14,10 @@ ghost use Rattle.check_text.specs.Runs.{AreRuns, IsRun};
 
 use crate::runs::runs_of;
 use an_base::entry::{Entries, Entry};
-use an_base::memory::OutOfMemory;
+use common_values::memory::OutOfMemory;
 use an_base::numbers::Numbers;
 use an_base::row::Row;
-use an_base::text::push_decimal;
+use common_values::text::push_decimal;
 use dep_check::channel::{Channel, Channels};
 use dep_check::check::{Ranks, check};
 use dep_check::refusal::CheckRefusal;

@@ -6,8 +6,8 @@ ghost use Rattle.net_script.specs.Texts.{IsText};
 ghost use Rattle.script_text.specs.Canonical.{canonical_text};
 ghost use Rattle.commands.specs.Gen.{AreGenWords, IsGenAnswerOn, IsGenCause, IsGenerated};
 
-use an_base::memory::OutOfMemory;
-use an_base::text::Word;
+use common_values::memory::OutOfMemory;
+use common_values::text::Word;
 use answering::status::{Status, finish};
 use net_gen::script::script_of;
 use net_gen::summary::summary;

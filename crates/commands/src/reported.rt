@@ -5,7 +5,7 @@ ghost use Rattle.replay.specs.Replays.{IfIllegal, IsNoReplay, IsRefusal};
 ghost use Rattle.answering.specs.Answer.{IsEnding, input_limit};
 ghost use Rattle.commands.specs.Reported.{IsReported, IsReportedText, status_of_end};
 
-use an_base::memory::OutOfMemory;
+use common_values::memory::OutOfMemory;
 use answering::command::Given;
 use answering::status::Status;
 use fabric_state::ending::Ending;

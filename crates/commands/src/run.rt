@@ -12,7 +12,7 @@ ghost use Rattle.answering.specs.Scripted.{refuses_script};
 ghost use Rattle.commands.specs.Words.{IsRunAnswer};
 
 use crate::reported::given as given_of;
-use an_base::memory::OutOfMemory;
+use common_values::memory::OutOfMemory;
 use answering::command::Given;
 use answering::input::INPUT_LIMIT;
 use answering::status::{Status, finish};

@@ -7,7 +7,7 @@ use crate::generate::{autonet_gen, gen_words};
 use crate::names::autonet_names;
 use crate::replaying::autonet_replay;
 use crate::run::autonet_run;
-use an_base::text::Word;
+use common_values::text::Word;
 use answering::status::{Status, finish};
 use answering::words::is_word;
 use file_commands::file::{answer_file, command_of};

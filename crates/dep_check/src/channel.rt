@@ -1,6 +1,6 @@
 //! Channels are named as rows name them, by number. Cycles are compared by their order: number first, then port.
 
-use an_base::items::Items;
+use common_values::items::Items;
 
 /// A switch, by its number, and one of its ports. As a channel it is the link that leaves there.
 #[derive(Clone, Copy, PartialEq, Eq, PartialOrd, Ord)]

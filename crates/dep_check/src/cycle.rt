@@ -11,7 +11,7 @@ use crate::level::{level_of, nearest_to};
 use crate::spot::{SPOTS, spot_at};
 use crate::steps::Steps;
 use crate::tier::{has_peer, tiers_of};
-use an_base::memory::OutOfMemory;
+use common_values::memory::OutOfMemory;
 use std::alloc::Global;
 
 // The least channel of a level to which a channel leads.

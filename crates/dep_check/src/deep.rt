@@ -9,7 +9,7 @@ use crate::ports::has;
 use crate::spot::{SPOTS, place_of, spot_at};
 use crate::steps::Steps;
 use crate::walk::none_seen;
-use an_base::memory::OutOfMemory;
+use common_values::memory::OutOfMemory;
 use std::alloc::Global;
 
 /// A spot that a walk comes to, or that it leaves.

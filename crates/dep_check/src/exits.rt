@@ -9,7 +9,7 @@ use crate::channel::Channel;
 use crate::ports::{has, only_ports, with};
 use crate::spot::{SPOTS, place_of};
 use an_base::limits::{LAST_PORT, MOST_NUMBER};
-use an_base::memory::OutOfMemory;
+use common_values::memory::OutOfMemory;
 use an_base::row::Row;
 use std::alloc::Global;
 

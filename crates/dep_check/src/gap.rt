@@ -16,7 +16,7 @@ use crate::spot::{SPOTS, spot_at};
 use crate::steps::Steps;
 use crate::targets::ByTarget;
 use crate::walk::{is_seen, none_seen, walk};
-use an_base::memory::OutOfMemory;
+use common_values::memory::OutOfMemory;
 use an_base::numbers::Numbers;
 use an_base::row::Row;
 use std::alloc::Global;

@@ -17,7 +17,7 @@ use crate::spot::{SPOTS, place_of, spot_at};
 use crate::steps::Steps;
 use crate::wires::place_in;
 use an_base::limits::{LAST_PORT, MOST_NUMBER};
-use an_base::memory::OutOfMemory;
+use common_values::memory::OutOfMemory;
 use an_base::numbers::Numbers;
 use an_base::port_set::{lowest, without};
 use an_base::row::Row;

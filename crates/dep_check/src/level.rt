@@ -11,7 +11,7 @@ ghost use Rattle.dep_check.specs.Rounds.{LeadsToOne};
 use crate::channel::Channel;
 use crate::spot::{SPOTS, place_of, spot_at};
 use crate::steps::Steps;
-use an_base::memory::OutOfMemory;
+use common_values::memory::OutOfMemory;
 use an_base::port_set::{lowest, without};
 use std::alloc::Global;
 

@@ -4,7 +4,7 @@ ghost use Rattle.std.specs.Prelude.{◌≡◌};
 ghost use Rattle.dep_check.specs.declared.refusal.CheckRefusal.TheVariants.{OutOfMemory};
 
 use crate::channel::Channels;
-use an_base::memory::OutOfMemory;
+use common_values::memory::OutOfMemory;
 
 /// Why rows are refused.
 #[derive(Drop)]

@@ -11,7 +11,7 @@ use crate::channel::Channel;
 use crate::exits::{all_exits, exits_at, has_exit, no_exits};
 use crate::spot::place_of;
 use crate::targets::ByTarget;
-use an_base::memory::OutOfMemory;
+use common_values::memory::OutOfMemory;
 use an_base::numbers::Numbers;
 use an_base::port_set::{lowest, without};
 use an_base::row::Row;

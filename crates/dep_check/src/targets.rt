@@ -10,7 +10,7 @@ use crate::exits::{add_row, no_exits};
 use crate::spot::SPOTS;
 use crate::wires::place_in;
 use an_base::limits::MOST_NUMBER;
-use an_base::memory::OutOfMemory;
+use common_values::memory::OutOfMemory;
 use an_base::numbers::Numbers;
 use an_base::row::Row;
 use std::alloc::Global;

@@ -9,7 +9,7 @@ use crate::deep::{leave_all, walk_deep};
 use crate::spot::{SPOTS, place_of, spot_at};
 use crate::steps::Steps;
 use crate::walk::{is_seen, none_seen};
-use an_base::memory::OutOfMemory;
+use common_values::memory::OutOfMemory;
 use an_base::port_set::{lowest, without};
 use std::alloc::Global;
 

@@ -9,7 +9,7 @@ ghost use Rattle.dep_check.specs.Walks.{IsWalked, seen_at, Sees};
 use crate::channel::Channel;
 use crate::spot::{SPOTS, place_of};
 use crate::steps::Steps;
-use an_base::memory::OutOfMemory;
+use common_values::memory::OutOfMemory;
 use an_base::port_set::{lowest, without};
 use std::alloc::Global;
 

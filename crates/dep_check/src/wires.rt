@@ -8,7 +8,7 @@ ghost use Rattle.dep_check.specs.Tables.{AreWires, AreWiresBelow, IsSpot};
 
 use crate::channel::Channel;
 use crate::spot::SPOTS;
-use an_base::memory::OutOfMemory;
+use common_values::memory::OutOfMemory;
 use an_base::numbers::Numbers;
 use std::alloc::Global;
 use topo_graph::graph::Graph;

@@ -21,7 +21,7 @@ use an_base::body::{AnswerBody, Body, PosBody, TopoBody};
 use an_base::entry::Entries;
 use an_base::life::Life;
 use an_base::links::Links;
-use an_base::memory::OutOfMemory;
+use common_values::memory::OutOfMemory;
 use an_base::position::Position;
 use std::alloc::Global;
 use std::marker::Model;

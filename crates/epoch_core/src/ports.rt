@@ -13,7 +13,7 @@ use crate::sends::{Outgoing, Sends};
 use an_base::body::{AnswerBody, Body, PosBody, TopoBody};
 use an_base::entry::{Entries, Entry};
 use an_base::links::Links;
-use an_base::memory::OutOfMemory;
+use common_values::memory::OutOfMemory;
 use std::alloc::Global;
 use topo_report::report::Report;
 

@@ -1,7 +1,7 @@
 //! What a core wants to be sent. Sessions number these bodies and make frames of them.
 
 use an_base::body::Body;
-use an_base::items::Items;
+use common_values::items::Items;
 use std::marker::Model;
 
 /// A body that goes out on a port.

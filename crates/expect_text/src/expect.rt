@@ -12,7 +12,7 @@ ghost use Rattle.row_text.specs.TableForms.{table_text};
 ghost use Rattle.row_text.specs.Rows.{table_forms};
 
 use an_base::entry::{Entries, Entry};
-use an_base::memory::OutOfMemory;
+use common_values::memory::OutOfMemory;
 use an_base::numbers::Numbers;
 use itoa::Buffer;
 use net_graph::forest::trees;

@@ -4,8 +4,8 @@
 //! It has no contract of its own: what it prints, and its status, are those of the call.
 #![tactic(auto)]
 
-use an_base::memory::OutOfMemory;
-use an_base::text::Word;
+use common_values::memory::OutOfMemory;
+use common_values::text::Word;
 use calling::words::words_of_call;
 use ib_answering::status::{Status, finish};
 use ib_calls::fabric::fabric;

@@ -28,7 +28,7 @@ ghost use Rattle.fabric_book.specs.Kept.{HasSamples, IsDrivers, history_with};
 
 use an_base::event::{Event, Journal};
 use an_base::life::Life;
-use an_base::memory::OutOfMemory;
+use common_values::memory::OutOfMemory;
 use an_base::place::Place;
 use an_base::port::{Note, Port, Sample};
 use fabric_state::fabric::Fabric;

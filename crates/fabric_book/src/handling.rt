@@ -19,7 +19,7 @@ ghost use Rattle.fabric_book.specs.Told.{hand_lines};
 use crate::book::Book;
 use crate::lines::Lines;
 use crate::telling::{tell_finish, tell_noise, tell_port, tell_ports};
-use an_base::memory::OutOfMemory;
+use common_values::memory::OutOfMemory;
 use an_base::place::Place;
 use an_base::port::{Note, Port};
 use fabric_state::hand::Hand;

@@ -4,7 +4,7 @@ ghost use Rattle.std.specs.Prelude.{◌≡◌, ◌++◌, ◌∷◌, [], option_t
 ghost use Rattle.std.specs.List.{flat_map};
 ghost use Rattle.fabric_book.specs.Told.{line_if};
 
-use an_base::memory::OutOfMemory;
+use common_values::memory::OutOfMemory;
 use fabric_state::line::Line;
 use std::alloc::Global;
 use std::marker::Model;

@@ -21,7 +21,7 @@ use crate::lines::Lines;
 use crate::power::PowerOn;
 use an_base::event::{Event, Journal};
 use an_base::life::Life;
-use an_base::memory::OutOfMemory;
+use common_values::memory::OutOfMemory;
 use an_base::place::Place;
 use an_base::port::{Note, Port};
 use fabric_state::ending::Ending;

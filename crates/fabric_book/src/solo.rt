@@ -11,7 +11,7 @@ ghost use Rattle.fabric_book.specs.Rounds.{AreIdleBefore, GoesOn, HasDriven, IsI
 use crate::lines::Lines;
 use crate::net::Net;
 use an_base::event::Journal;
-use an_base::memory::OutOfMemory;
+use common_values::memory::OutOfMemory;
 use an_base::place::Place;
 use fabric_state::ending::Ending;
 use fabric_state::work::Drive;

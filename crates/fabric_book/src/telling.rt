@@ -12,7 +12,7 @@ ghost use Rattle.fabric_book.specs.Told.{line_if, noise_lines};
 
 use crate::lines::Lines;
 use an_base::limits::LAST_PORT;
-use an_base::memory::OutOfMemory;
+use common_values::memory::OutOfMemory;
 use an_base::place::Place;
 use an_base::port::{Note, Port, PortState, PortView};
 use fabric_state::hand::Hand;

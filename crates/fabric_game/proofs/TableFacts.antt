@@ -37,7 +37,7 @@ use Rattle.fabric_game.proofs.PortFacts.{index_of, has_size}
 use Rattle.ordered_link.specs.Receiving.{accepted_by}
 use Rattle.fabric_world.proofs.InductionLemmas.{always}
 use Rattle.fabric_world.proofs.TableLemmas.{finish_more}
-use Rattle.an_base.proofs.ListLemmas.{some_is}
+use Rattle.common_values.proofs.ListLemmas.{some_is}
 use Rattle.fabric_state.proofs.ReadyLemmas.{handle_ready, set_one}
 use Rattle.fabric_world.proofs.PlaceLemmas.{set_both, switch_below}
 

@@ -18,7 +18,7 @@ use Rattle.an_base.specs.declared.port.PortState.{PortState}
 use Rattle.an_base.specs.declared.port.PortState.TheVariants as state
 use Rattle.an_base.specs.declared.port.Sample.{Sample}
 use Rattle.an_base.specs.declared.port.Sample.TheVariants as sample
-use Rattle.an_base.proofs.OrderingLemmas.{equal_is}
+use Rattle.common_values.proofs.OrderingLemmas.{equal_is}
 use Rattle.connectivity.specs.declared.conn.Conn.{Conn}
 use Rattle.connectivity.specs.declared.conn.Conn.TheVariants.{Who, Loop, Good}
 use Rattle.net_graph.specs.declared.wiring.Far.{Far}

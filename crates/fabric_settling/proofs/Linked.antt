@@ -3,8 +3,8 @@
 use Rattle.std.specs.Prelude.{◌≡◌, ◌≢◌, ◌⊎◌, ◌+◌, ◌*◌, ◌<◌, ◌≤◌, ℕ, List, [], ◌∷◌, map, length, slice_index_or, AllPairs, Any, Some, true}
 use Rattle.std.specs.List.{flat_map}
 use Rattle.std.proofs.Common.{sym, ◌∙◌, ap, inl, inr, arith}
-use Rattle.an_base.proofs.ListLemmas.{AllPairs-head, AllPairs-tail, Any-cons_cases}
-use Rattle.an_base.proofs.PairLemmas.{AllPairs-front}
+use Rattle.common_values.proofs.ListLemmas.{AllPairs-head, AllPairs-tail, Any-cons_cases}
+use Rattle.common_values.proofs.PairLemmas.{AllPairs-front}
 use Rattle.net_graph.specs.declared.wiring.LinkAt.{LinkAt}
 use Rattle.an_base.specs.declared.event.Event.{Event}
 use Rattle.net_graph.specs.declared.wiring.Far.TheVariants.{Switch}

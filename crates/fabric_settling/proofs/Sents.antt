@@ -7,7 +7,7 @@ use Rattle.an_base.specs.declared.event.Event.{Event}
 use Rattle.an_base.specs.declared.event.Event.TheVariants.{Handle}
 use Rattle.an_base.specs.declared.frame.Frame.{Frame}
 use Rattle.an_base.specs.declared.frame.Frame.TheVariants.{Carry, Ack, Probe, Reply}
-use Rattle.an_base.proofs.TestLemmas.{by_test}
+use Rattle.common_values.proofs.TestLemmas.{by_test}
 use Rattle.connectivity.specs.Connections.{is_same_end}
 use Rattle.net_script.specs.Scripts.{ScriptOf, IsScript}
 use Rattle.frame_codec.specs.Frames.{IsFrame}

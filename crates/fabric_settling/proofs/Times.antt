@@ -8,7 +8,7 @@ use Rattle.std.proofs.lemmas.Option.{slice_get_within, get_or_from_slice_get}
 use Rattle.an_base.specs.Values.{TopoOf}
 use Rattle.an_base.specs.declared.event.Event.{Event}
 use Rattle.an_base.specs.declared.event.Event.TheVariants.{Tick, Clock, Take, Handle, Load, Fail, Repair, Lose, Again, Swap, Noise, Send, Move, Restart}
-use Rattle.an_base.proofs.TestLemmas.{by_choice}
+use Rattle.common_values.proofs.TestLemmas.{by_choice}
 use Rattle.net_script.specs.declared.command.Command.{Command}
 use Rattle.net_script.specs.Scripts.{ScriptOf, IsScript}
 use Rattle.switch_core.specs.Switch.{finish_of}

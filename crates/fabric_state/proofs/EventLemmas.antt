@@ -8,7 +8,7 @@ use Rattle.std.specs.Cmp.Lexicographic.{slice_cmp}
 use Rattle.an_base.specs.declared.event.Event.{Event}
 use Rattle.an_base.specs.declared.event.Event.TheVariants.{Tick, Clock, Take, Handle, Load, Fail, Repair, Lose, Again, Swap, Noise, Send, Move, Restart}
 use Rattle.fabric_state.specs.Lawful.{event_code, is_same_event}
-use Rattle.an_base.proofs.OrderingLemmas.{equal_is}
+use Rattle.common_values.proofs.OrderingLemmas.{equal_is}
 
 -- the event of a kind with these fields
 event_by : ℕ → ℕ → ℕ → ℕ → Event

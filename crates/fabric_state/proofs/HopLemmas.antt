@@ -6,7 +6,7 @@ use Rattle.std.proofs.lemmas.List.{append-nil}
 use Rattle.std.proofs.lemmas.List.Elements.{All-nil, All-cons, All-get_or, All-append, All-weaker, All-map, All-filter}
 use Rattle.std.proofs.lemmas.List.Kept.{AllPairs-filter}
 use Rattle.std.proofs.lemmas.List.Quantifiers.{all_pairs_push}
-use Rattle.an_base.proofs.PairLemmas.{AllPairs-map}
+use Rattle.common_values.proofs.PairLemmas.{AllPairs-map}
 use Rattle.net_graph.specs.declared.wiring.HostOn.{HostOn}
 use Rattle.net_graph.specs.Wires.{IsHost}
 use Rattle.net_script.specs.Scripts.{ScriptOf}

@@ -41,7 +41,7 @@ use crate::telling::{copy_line, hop_line, loss_line, sent_line};
 use crate::work::{Drive, Why, Work};
 use an_base::event::Event;
 use an_base::life::{End, Life};
-use an_base::memory::OutOfMemory;
+use common_values::memory::OutOfMemory;
 use an_base::place::Place;
 use an_base::port::{Note, Port, PortView, Sample};
 use frame_region::buffer::FrameBuf;

@@ -6,7 +6,7 @@ ghost use Rattle.net_script.specs.Scripts.{IsScript};
 ghost use Rattle.fabric_state.specs.Fabric.{no_host};
 
 use crate::host::host_at;
-use an_base::memory::OutOfMemory;
+use common_values::memory::OutOfMemory;
 use an_base::place::Place;
 use net_graph::wiring::{HostOn, LinkAt, SwitchAt};
 use net_script::command::Command;

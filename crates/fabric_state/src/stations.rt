@@ -12,7 +12,7 @@ ghost use Rattle.fabric_state.specs.Tallies.{IsCounted, IsCountedAnew, one_if, s
 
 use crate::hand::Hand;
 use crate::station::{Station, started_note};
-use an_base::memory::OutOfMemory;
+use common_values::memory::OutOfMemory;
 use an_base::place::Place;
 use an_base::port::{Note, Port, PortState, PortView, Sample};
 use net_graph::wiring::Wiring;

@@ -11,7 +11,7 @@ ghost use Rattle.fabric_turn.specs.Seats.{HasAllNumbers, joined_view, new_view, 
 use crate::order::{Compare, Draw, Fork, Look, Merge, Opening, Order, Pass, Views};
 use crate::seat::Seat;
 use crate::staged::Staged;
-use an_base::memory::OutOfMemory;
+use common_values::memory::OutOfMemory;
 use atomic_table::{Refused, Table};
 use std::alloc::Global;
 use std::snapshot::Snapshot;

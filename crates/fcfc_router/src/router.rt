@@ -8,7 +8,7 @@ ghost use Rattle.fcfc_router.specs.Calls.{MayAsk};
 ghost use Rattle.fcfc_router.specs.Shown.{HasSets, is_taken, ports_of, set_at, shown};
 
 use crate::tree::PortTree;
-use an_base::memory::OutOfMemory;
+use common_values::memory::OutOfMemory;
 use std::alloc::Global;
 use std::marker::Model;
 

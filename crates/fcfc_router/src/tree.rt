@@ -5,7 +5,7 @@ ghost use Rattle.std.specs.Prelude.{slice_index, slice_set, vec_capacity, All, I
 ghost use Rattle.std.specs.Int.{IsPowerOfTwo};
 ghost use Rattle.fcfc_router.specs.Tree.{HasNone, IsFirst, IsHalf, IsTree};
 
-use an_base::memory::OutOfMemory;
+use common_values::memory::OutOfMemory;
 use std::alloc::Global;
 use std::marker::Model;
 

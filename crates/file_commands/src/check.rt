@@ -7,7 +7,7 @@ ghost use Rattle.answering.specs.Answer.{streams};
 ghost use Rattle.file_commands.specs.Answers.{IsCheckAnswer};
 ghost use Rattle.file_commands.specs.Check.{gives_judged, refuses_tables, status_of};
 
-use an_base::memory::OutOfMemory;
+use common_values::memory::OutOfMemory;
 use answering::command::{Command, Given, answer};
 use answering::status::Status;
 use check_text::check::judge;

@@ -9,7 +9,7 @@ use crate::flood::autonet_flood;
 use crate::flow::autonet_flow;
 use crate::room::Room;
 use crate::words::room_of;
-use an_base::text::Word;
+use common_values::text::Word;
 use answering::expect::autonet_expect;
 use answering::words::is_word;
 use outside::sink::Sink;

@@ -4,7 +4,7 @@ ghost use Rattle.std.specs.Prelude.{◌≡◌, ◌≢◌, ℕ, List, [], ◌∷�
 ghost use Rattle.file_commands.specs.Flow.{AreFlowWords};
 
 use crate::room::Room;
-use an_base::text::Word;
+use common_values::text::Word;
 use text_lines::word::number_between;
 
 // The second of two words, of which the first has these bytes.

@@ -16,7 +16,7 @@ use Rattle.broadcast_flood.specs.Floods.{IsBroadcast}
 use Rattle.broadcast_flood.specs.declared.hop.FloodHop.{FloodHop}
 use Rattle.flood_text.specs.Floods.{FloodLine, From, Goes, Copies, Last, line_words, flood_lines, member_lines, AreFloods, FloodPart, part_lines, lines_told, flood_text}
 use Rattle.row_text.proofs.ComponentTree.{component_tree}
-use Rattle.an_base.proofs.ListLemmas.{zip_push}
+use Rattle.common_values.proofs.ListLemmas.{zip_push}
 
 -- the components of a forest are trees
 pub forest_trees : (wires : Wires) (forest : List (List EntryOf)) → IsWired wires → IsForest wires forest → All IsTree forest

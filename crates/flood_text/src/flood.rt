@@ -11,7 +11,7 @@ ghost use Rattle.flood_text.specs.Floods.{IsFloodOf, line_words, lines_told, par
 
 use an_base::entry::Entries;
 use an_base::life::Life;
-use an_base::memory::OutOfMemory;
+use common_values::memory::OutOfMemory;
 use broadcast_flood::flood::Flood;
 use broadcast_flood::hop::FloodHop;
 use itoa::Buffer;

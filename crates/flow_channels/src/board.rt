@@ -14,7 +14,7 @@ ghost use Rattle.flow_channels.specs.Turns.{AreFree, IsAtTarget};
 use crate::exits::NUMBERS;
 use crate::queue::Queue;
 use crate::tables::Tables;
-use an_base::memory::OutOfMemory;
+use common_values::memory::OutOfMemory;
 use dep_check::channel::Channel;
 use dep_check::spot::{SPOTS, place_of, spot_at};
 use fcfc_router::router::Router;

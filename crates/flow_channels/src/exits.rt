@@ -9,7 +9,7 @@ ghost use Rattle.flow_channels.specs.Exits.{AreExitsOf};
 ghost use Rattle.flow_channels.specs.Sets.{AreInTurn, AreSetsOf, AreStartsBelow};
 
 use an_base::limits::{LAST_PORT, MOST_NUMBER};
-use an_base::memory::OutOfMemory;
+use common_values::memory::OutOfMemory;
 use an_base::numbers::Numbers;
 use an_base::row::Row;
 use dep_check::channel::Channel;

@@ -21,7 +21,7 @@ use crate::exits::ExitTable;
 use crate::tables::Tables;
 use crate::watch::Watch;
 use crate::went::Went;
-use an_base::memory::OutOfMemory;
+use common_values::memory::OutOfMemory;
 use an_base::numbers::Numbers;
 use std::alloc::Global;
 use std::marker::Model;

@@ -9,7 +9,7 @@ ghost use Rattle.flow_channels.specs.Exits.{AreExitsOf};
 ghost use Rattle.flow_channels.specs.Layout.{layout_of};
 
 use crate::exits::ExitTable;
-use an_base::memory::OutOfMemory;
+use common_values::memory::OutOfMemory;
 use an_base::numbers::Numbers;
 use dep_check::channel::Channel;
 use dep_check::spot::place_of;

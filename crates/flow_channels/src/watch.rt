@@ -14,7 +14,7 @@ use crate::board::{Ahead, Arrival, Board, Departure, Packet};
 use crate::exits::NUMBERS;
 use crate::marks::SpotMarks;
 use crate::tables::Tables;
-use an_base::memory::OutOfMemory;
+use common_values::memory::OutOfMemory;
 use dep_check::channel::Channel;
 use dep_check::spot::{place_of, spot_at};
 use fcfc_router::router::Grant;

@@ -21,10 +21,10 @@ ghost use Rattle.flow_text.specs.Sends.{entering, homes_of, is_entering, is_loca
 
 use crate::sent::{Home, Sent, count_local, entering, homes_of, is_joined, sends_of};
 use an_base::entry::{Entries, Entry};
-use an_base::memory::OutOfMemory;
+use common_values::memory::OutOfMemory;
 use an_base::numbers::Numbers;
 use an_base::place::Place;
-use an_base::text::Word;
+use common_values::text::Word;
 use flow_channels::exits::ExitTable;
 use flow_channels::flow::Flow;
 use flow_channels::went::Went;

@@ -8,7 +8,7 @@ ghost use Rattle.flow_text.specs.Sends.{number_of, numbers_in, sends_of};
 
 use an_base::entry::{Entries, Entry};
 use an_base::event::Event;
-use an_base::memory::OutOfMemory;
+use common_values::memory::OutOfMemory;
 use an_base::numbers::Numbers;
 use an_base::place::Place;
 use net_graph::wiring::{HostOn, SwitchAt};

@@ -10,7 +10,7 @@ ghost use Rattle.frame_region.specs.Inside.{IsWritten};
 ghost use Rattle.frame_region.specs.Regions.{bytes_at, held_at, piece_of, with_put, without};
 
 use crate::buffer::FrameBuf;
-use an_base::memory::OutOfMemory;
+use common_values::memory::OutOfMemory;
 use std::alloc::Global;
 use std::marker::Model;
 

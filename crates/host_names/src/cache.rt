@@ -5,7 +5,7 @@ ghost use Rattle.std.specs.Option.{ForSome};
 ghost use Rattle.host_names.specs.Caches.{ArrivalOf, choice_by, choice_of, is_from, kept_of, with_arrival};
 
 use crate::choice::Choice;
-use an_base::memory::OutOfMemory;
+use common_values::memory::OutOfMemory;
 use std::alloc::Global;
 use std::marker::Model;
 

@@ -10,7 +10,7 @@ ghost use Rattle.host_traffic.specs.Filed.{IsFiledIn, IsFoundAt, IsPlaceFor, pla
 use crate::hop::{DropCause, Hop};
 use crate::packet::Packet;
 use crate::view::HopView;
-use an_base::memory::OutOfMemory;
+use common_values::memory::OutOfMemory;
 use an_base::place::Place;
 use an_base::port::Port;
 use slab::Slab;

@@ -8,7 +8,7 @@ ghost use Rattle.ib_answering.specs.Answer.{sources, streams, GaveFabric, Gives,
 
 use crate::input::{Topology, read_topology};
 use crate::status::{Status, finish};
-use an_base::memory::OutOfMemory;
+use common_values::memory::OutOfMemory;
 use ib_tables::reader::{Tables, read_tables};
 use outside::all::write_all;
 use outside::sink::Sink;

@@ -6,7 +6,7 @@ ghost use Rattle.ib_answering.specs.Answer.{fabric_refused, tables_refused};
 ghost use Rattle.ib_answering.specs.Line.{text_of};
 ghost use Rattle.ib_answering.specs.Status.{IsToldOf, code_of, line_of, refusal_line};
 
-use an_base::memory::OutOfMemory;
+use common_values::memory::OutOfMemory;
 use calling::end::tell;
 use ib_fabric::cause::FabricCause;
 use ib_reader::reader::TextRefusal;

@@ -9,7 +9,7 @@ ghost use Rattle.ib_mixtures.specs.Verdict.{IsJudgement};
 ghost use Rattle.ib_between.specs.Judged.{IsAnswerFor, IsBetween, IsEndOf, IsLoop, IsToldOf, switches_of, turn_of};
 
 use crate::lines::{Between, NewRows, Turn, print_between};
-use an_base::memory::OutOfMemory;
+use common_values::memory::OutOfMemory;
 use ib_answering::command::Given;
 use ib_answering::input::Topology;
 use ib_answering::status::Status;

@@ -4,7 +4,7 @@ ghost use Rattle.std.specs.Prelude.{◌≡◌, ◌++◌, IfOk, OnOk};
 ghost use Rattle.text_lines.specs.Lines.{line_text, lines_text};
 ghost use Rattle.ib_between.specs.Lines.{between_row, between_text, by_word, loop_rows, looped_word};
 
-use an_base::memory::OutOfMemory;
+use common_values::memory::OutOfMemory;
 use ib_lines::answer::{Name, Read};
 use ib_lines::printer::{push_channels, push_read, push_unset};
 use ib_lines::row::RowWord::{Guid, Number, Text};

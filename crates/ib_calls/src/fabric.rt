@@ -5,7 +5,7 @@ ghost use Rattle.ib_answering.specs.Answer.{streams};
 ghost use Rattle.ib_calls.specs.Call.{IsAnswerTo, more};
 ghost use Rattle.ib_lane_commands.specs.Asked.{HasLowLevels, IsAskedBy};
 
-use an_base::text::Word;
+use common_values::text::Word;
 use ib_answering::command::answer;
 use ib_answering::status::{Status, finish};
 use ib_between::between::between;

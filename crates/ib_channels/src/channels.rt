@@ -4,7 +4,7 @@ ghost use Rattle.std.specs.Prelude.{◌<◌};
 ghost use Rattle.ib_net.specs.Fabric.{switch_count};
 
 use crate::table::{Numbered, Table};
-use an_base::memory::OutOfMemory;
+use common_values::memory::OutOfMemory;
 use ib_net::fabric::Fabric;
 use ib_net::node::Side;
 use std::alloc::Global;

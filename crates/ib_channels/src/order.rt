@@ -2,7 +2,7 @@
 
 use crate::channels::Channel;
 use crate::table::{Table, places};
-use an_base::memory::OutOfMemory;
+use common_values::memory::OutOfMemory;
 use std::alloc::Global;
 
 /// A total order of the channels. Routes along which it rises close no cycle, whatever their ends.

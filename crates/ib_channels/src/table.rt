@@ -1,7 +1,7 @@
 //! Tables of values for what has numbers.
 
 use crate::amount::{Amount, Change};
-use an_base::memory::OutOfMemory;
+use common_values::memory::OutOfMemory;
 use std::alloc::Global;
 
 /// What has a number, by which it is found in a table.

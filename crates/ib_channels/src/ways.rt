@@ -4,7 +4,7 @@ use crate::channels::{Channel, Channels};
 use crate::demand::Demand;
 use crate::order::Order;
 use crate::table::Table;
-use an_base::memory::OutOfMemory;
+use common_values::memory::OutOfMemory;
 use std::alloc::Global;
 
 /// The depth of a switch without a way.

@@ -7,7 +7,7 @@ use Rattle.std.proofs.lemmas.Bool.{cases_lt}
 use Rattle.std.proofs.lemmas.Bool.Decides.{nat_tests}
 use Rattle.std.proofs.lemmas.List.{flat_map_more}
 use Rattle.std.proofs.lemmas.Nat.{mul-le}
-use Rattle.an_base.proofs.ListLemmas.{places_more}
+use Rattle.common_values.proofs.ListLemmas.{places_more}
 use Rattle.ib_net.specs.declared.node.Side.{Side}
 use Rattle.ib_net.specs.declared.node.Side.TheVariants.{Bare}
 use Rattle.ib_net.specs.declared.node.Spot.{Spot}

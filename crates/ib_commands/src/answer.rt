@@ -13,7 +13,7 @@ use crate::losses::{losses_of, lost_of};
 use crate::names::names_in;
 use crate::steps::steps_of;
 use crate::words::word_of;
-use an_base::memory::OutOfMemory;
+use common_values::memory::OutOfMemory;
 use ib_answering::input::Topology;
 use ib_answering::status::Status;
 use ib_counts::count::count_routes;

@@ -10,7 +10,7 @@ ghost use Rattle.ib_commands.specs.Judged.{IsJudged};
 
 use crate::answer::{answer_for, status_of};
 use crate::ranks::ranks_of;
-use an_base::memory::OutOfMemory;
+use common_values::memory::OutOfMemory;
 use ib_answering::command::{Command, Given};
 use ib_answering::input::Topology;
 use ib_lines::printer::print;

@@ -10,7 +10,7 @@ use crate::answer::{cycle_of, status_of};
 use crate::names::names_for;
 use crate::steps::step_of;
 use crate::words::word_of;
-use an_base::memory::OutOfMemory;
+use common_values::memory::OutOfMemory;
 use ib_answering::command::{Command, Given};
 use ib_answering::input::Topology;
 use ib_lines::picture::{Arrow, Picture, print_picture};

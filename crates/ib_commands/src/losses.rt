@@ -4,7 +4,7 @@ ghost use Rattle.std.specs.Prelude.{◌≡◌, ◌+◌, ◌++◌, OnOk, IfOk};
 ghost use Rattle.ib_counts.specs.Counts.{sum_of};
 ghost use Rattle.ib_commands.specs.Judged.{losses_of, lost_by, lost_of};
 
-use an_base::memory::OutOfMemory;
+use common_values::memory::OutOfMemory;
 use ib_counts::counts::{Counts, Loss, Losses};
 use ib_lines::answer::{Lost, LostCounts, WhyLost};
 use ib_net::fabric::Fabric;

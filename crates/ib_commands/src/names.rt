@@ -4,8 +4,8 @@ ghost use Rattle.std.specs.Prelude.{◌≡◌, ◌++◌, OnOk, IfOk, nat_eq, opt
 ghost use Rattle.indexmap.specs.IndexSet.{insert_key};
 ghost use Rattle.ib_commands.specs.Names.{mentioned, told_name, names_for};
 
-use an_base::memory::OutOfMemory;
-use an_base::text::Word;
+use common_values::memory::OutOfMemory;
+use common_values::text::Word;
 use ib_lines::answer::{LoopStep, Lost, Name};
 use ib_names::names::names_of;
 use indexmap::IndexSet;

@@ -8,7 +8,7 @@ ghost use Rattle.ib_verdict.specs.Verdict.{rank_in, spot_at};
 ghost use Rattle.ib_commands.specs.Certified.{AreSmall, rank_at, rank_of, ranks_of, risen_of};
 
 use crate::steps::step_of;
-use an_base::memory::OutOfMemory;
+use common_values::memory::OutOfMemory;
 use ib_lines::ranks::{Rank, Risen};
 use ib_net::fabric::Fabric;
 use ib_net::node::{EndPort, Side, Spot};

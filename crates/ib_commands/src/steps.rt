@@ -3,7 +3,7 @@
 ghost use Rattle.std.specs.Prelude.{◌≡◌, map, IfOk};
 ghost use Rattle.ib_commands.specs.Judged.{step_of};
 
-use an_base::memory::OutOfMemory;
+use common_values::memory::OutOfMemory;
 use ib_lines::answer::LoopStep;
 use ib_net::fabric::Fabric;
 use ib_net::node::EndPort;

@@ -14,7 +14,7 @@ ghost use Rattle.ib_commands.specs.Certified.{AreRanksJudged, IsEndBy, risen_of}
 
 use crate::ranks::risen_of;
 use crate::words::word_of;
-use an_base::memory::OutOfMemory;
+use common_values::memory::OutOfMemory;
 use ib_answering::command::{Command, Given};
 use ib_answering::input::Topology;
 use ib_answering::status::Status;

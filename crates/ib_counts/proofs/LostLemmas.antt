@@ -2,7 +2,7 @@
 use Rattle.std.proofs.Common.{◌≡◌, ◌∙◌, sym, ap, subst, refl, ℕ, zero, suc, ◌+◌, ◌-◌, ◌*◌, ◌/◌, ◌%◌, ◌<◌, ◌≤◌, arith, mul_comm, inl, inr, min}
 use Rattle.std.proofs.lemmas.Bool.{cases_lt}
 use Rattle.std.proofs.Math.Nat.{div-add-mod, le-mul_of_pos_right, mod-lt}
-use Rattle.an_base.proofs.PigeonLemmas.{pigeons}
+use Rattle.common_values.proofs.PigeonLemmas.{pigeons}
 use Rattle.ib_counts.specs.Counts.{ComesAgain, IsLost, IsLostAt}
 use Rattle.ib_counts.specs.Lost.{IsFar, IsLeastOf}
 use Rattle.ib_routes.specs.declared.hop.Cause.{Cause}

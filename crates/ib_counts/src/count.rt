@@ -17,7 +17,7 @@ use crate::counts::Counts;
 use crate::height::{clear, longer_from};
 use crate::room::Rooms;
 use crate::source::{Heard, count_heard, count_senders, end_port_at, end_ports};
-use an_base::memory::OutOfMemory;
+use common_values::memory::OutOfMemory;
 use ib_cells::cells::Cells;
 use ib_net::fabric::Fabric;
 use ib_net::node::EndPort;

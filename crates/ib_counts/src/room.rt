@@ -3,7 +3,7 @@
 ghost use Rattle.std.specs.Prelude.{IfOk};
 ghost use Rattle.ib_counts.specs.Steps.{AreRooms};
 
-use an_base::memory::OutOfMemory;
+use common_values::memory::OutOfMemory;
 use ib_routes::trace::Mark;
 use std::alloc::Global;
 

@@ -10,7 +10,7 @@ ghost use Rattle.ib_fabric.specs.Fabrics.{no_nodes};
 use crate::base::{base_of, unset_end};
 use crate::cause::FabricCause;
 use crate::lines::Takes;
-use an_base::memory::OutOfMemory;
+use common_values::memory::OutOfMemory;
 use ib_net::node::{LidRange, NodeFault, Switch};
 use ib_net::nodes::Nodes;
 use ib_topology::fact::Fact;

@@ -1,7 +1,7 @@
 //! What the words of a call name.
 
 use crate::said::is_standard;
-use an_base::text::Word;
+use common_values::text::Word;
 use std::fs::{self, Files};
 use std::io::{self, ErrorKind, Read};
 use std::str;

@@ -4,7 +4,7 @@ ghost use Rattle.std.specs.Prelude.{◌≡◌, MatchOption, None, Some, codes, d
 ghost use Rattle.ib_judging.specs.Said.{after, is_plain, is_standard, named, nothing_said, number_named, replies_named};
 ghost use Rattle.ib_judging.specs.Said.{rest_of, say, traffic_named, with_file, with_value, with_word};
 
-use an_base::text::Word;
+use common_values::text::Word;
 use ib_routes::traffic::Traffic;
 use text_lines::word::{is, number_between};
 

@@ -6,7 +6,7 @@ ghost use Rattle.ib_judging.specs.Words.{settled, task_word, traffic_at, traffic
 ghost use Rattle.ib_judging.specs.declared.words.Call.{Call};
 
 use crate::said::{MOST_FILES, Part, Said, said_by, traffic_named};
-use an_base::text::Word;
+use common_values::text::Word;
 use ib_routes::traffic::Traffic;
 
 /// What a call asks of tables.

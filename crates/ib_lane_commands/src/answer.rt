@@ -16,7 +16,7 @@ use crate::losses::{losses_of, lost_of};
 use crate::mute::mute_of;
 use crate::names::names_in;
 use crate::steps::steps_of;
-use an_base::memory::OutOfMemory;
+use common_values::memory::OutOfMemory;
 use ib_commands::answer::{read_of, unowned_told};
 use ib_commands::words::word_of;
 use ib_lane_counts::count::count_lane_routes;

@@ -8,7 +8,7 @@ ghost use Rattle.ib_lane_lines.specs.declared.answer.LevelsAsked.TheVariants.{Fi
 ghost use Rattle.ib_lane_commands.specs.Asked.{AreLevelsFor, AreLevelsRefused, HasLowLevels, IsAskedBy, IsOneOfSixteen};
 ghost use Rattle.ib_lane_commands.specs.Asked.{levels_refused};
 
-use an_base::text::Word;
+use common_values::text::Word;
 use ib_answering::status::Status;
 use ib_lane_lines::answer::{Asked, LevelsAsked};
 use ib_levels::reader::read_levels;

@@ -9,7 +9,7 @@ ghost use Rattle.ib_lane_commands.specs.LaneCall.{IsGiven, IsLaneAnswer, LaneGiv
 ghost use Rattle.ib_lane_lines.specs.declared.answer.Asked.{Asked};
 
 use crate::input::{Input, read_inputs};
-use an_base::memory::OutOfMemory;
+use common_values::memory::OutOfMemory;
 use ib_answering::command::{Given, tell_found};
 use ib_answering::status::Status;
 use ib_lane_lines::answer::Asked;

@@ -13,7 +13,7 @@ ghost use Rattle.ib_lane_commands.specs.LaneJudged.{IsLaneEndOf, IsLaneLoop};
 ghost use Rattle.ib_lane_commands.specs.Silence.{IsMute};
 
 use crate::input::Input;
-use an_base::memory::OutOfMemory;
+use common_values::memory::OutOfMemory;
 use ib_answering::status::Status;
 use ib_lane_lines::answer::Mute;
 use ib_lane_routes::routing::LaneRouting;

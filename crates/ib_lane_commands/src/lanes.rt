@@ -9,7 +9,7 @@ use crate::answer::answer_for;
 use crate::command::{LaneCommand, answer};
 use crate::input::Input;
 use crate::judged::{judged_for, status_of};
-use an_base::memory::OutOfMemory;
+use common_values::memory::OutOfMemory;
 use ib_answering::command::Given;
 use ib_lane_lines::answer::Asked;
 use ib_lane_lines::printer::print;

@@ -4,7 +4,7 @@ ghost use Rattle.std.specs.Prelude.{◌≡◌, ◌+◌, ◌++◌, OnOk, IfOk};
 ghost use Rattle.ib_lane_counts.specs.LaneCounts.{lane_sum_of};
 ghost use Rattle.ib_lane_commands.specs.LaneJudged.{lane_losses_of, lane_lost_by, lane_lost_of};
 
-use an_base::memory::OutOfMemory;
+use common_values::memory::OutOfMemory;
 use ib_lane_counts::counts::{LaneCounts, LaneLoss, LaneLosses as Counted};
 use ib_lane_lines::answer::{LaneLosses, LaneLost, LossCause};
 use ib_net::fabric::Fabric;

@@ -4,7 +4,7 @@ ghost use Rattle.std.specs.Prelude.{◌≡◌, IfOk};
 ghost use Rattle.ib_commands.specs.Names.{names_for};
 ghost use Rattle.ib_lane_commands.specs.LaneJudged.{lane_mentioned, mute_guids};
 
-use an_base::memory::OutOfMemory;
+use common_values::memory::OutOfMemory;
 use ib_commands::names::{insert_two, names_for};
 use ib_lane_lines::answer::{LaneLost, LaneStep, Mute};
 use ib_lines::answer::Name;

@@ -14,7 +14,7 @@ use crate::input::Input;
 use crate::judged::{cycle_of, judged_for, status_of};
 use crate::mute::first_mute;
 use crate::steps::without_lane;
-use an_base::memory::OutOfMemory;
+use common_values::memory::OutOfMemory;
 use ib_answering::command::Given;
 use ib_commands::dot::arrow_for;
 use ib_commands::names::names_for;

@@ -3,7 +3,7 @@
 ghost use Rattle.std.specs.Prelude.{◌≡◌, map, IfOk};
 ghost use Rattle.ib_lane_commands.specs.LaneJudged.{lane_step_of, without_lane};
 
-use an_base::memory::OutOfMemory;
+use common_values::memory::OutOfMemory;
 use ib_commands::steps::step_of as link_step_of;
 use ib_lane_lines::answer::LaneStep;
 use ib_lane_verdict::verdict::LaneLoopChannel;

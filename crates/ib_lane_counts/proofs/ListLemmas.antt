@@ -1,8 +1,8 @@
 -- Things of a kind that are among those of another one and as many are all of these.
 use Rattle.std.proofs.Common.{◌≡◌, ◌≢◌, sym, subst, ℕ, ◌-◌, ◌≤◌, ◌⊎◌, List, [], ◌∷◌, arith, length, inl, inr, AllPairs, Contains}
 use Rattle.std.proofs.lemmas.List.Elements.{All-contains}
-use Rattle.an_base.proofs.ListLemmas.{AllPairs-head, AllPairs-tail}
-use Rattle.an_base.proofs.MemberLemmas.{Contains-cons_cases, Contains-here, Contains-later}
+use Rattle.common_values.proofs.ListLemmas.{AllPairs-head, AllPairs-tail}
+use Rattle.common_values.proofs.MemberLemmas.{Contains-cons_cases, Contains-here, Contains-later}
 use Rattle.ib_routes.specs.Counting.{IsCountOf}
 use Rattle.ib_routes.proofs.CountLemmas.{count_without}
 

@@ -22,7 +22,7 @@ use crate::room::Rooms;
 use crate::route::BegunRoute;
 use crate::source::sender_begin;
 use crate::sums::sum_levels;
-use an_base::memory::OutOfMemory;
+use common_values::memory::OutOfMemory;
 use ib_counts::count::{count_routes, forget};
 use ib_counts::source::{end_port_at, end_ports, unowned_of};
 use ib_lane_routes::routing::LaneRouting;

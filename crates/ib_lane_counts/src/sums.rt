@@ -15,7 +15,7 @@ ghost use Rattle.ib_rows.specs.Lanes.{LanesOf};
 ghost use Rattle.ib_rows.specs.PathLevels.{LevelsOf};
 
 use crate::counts::LaneCounts;
-use an_base::memory::OutOfMemory;
+use common_values::memory::OutOfMemory;
 use ib_counts::counts::Counts;
 use ib_counts::source::{end_port_at, end_ports, unowned_of};
 use ib_lane_routes::routing::LaneRouting;

@@ -7,7 +7,7 @@ ghost use Rattle.ib_lane_lines.specs.LanePictures.{lane_arrow_row, lane_picture_
 
 use crate::answer::Asked;
 use crate::printer::levels_word;
-use an_base::memory::OutOfMemory;
+use common_values::memory::OutOfMemory;
 use ib_lines::answer::Name;
 use ib_lines::picture::{Arrow, print_picture_by, push_arrow};
 use ib_lines::row::RowWord::{Loop, Number, OnLane, Text};

@@ -8,7 +8,7 @@ ghost use Rattle.ib_lane_lines.specs.LaneAnswers.{lane_answer_text, lane_judged_
 use crate::answer::{
     Asked, LaneAnswer, LaneLosses, LaneLost, LaneStep, LevelsAsked, LossCause, Mute,
 };
-use an_base::memory::OutOfMemory;
+use common_values::memory::OutOfMemory;
 use ib_lines::printer::{push_channels, push_cycle, push_read, push_routes, push_unset};
 use ib_lines::row::RowWord::{Guid, Number, Text};
 use ib_lines::row::{HasRow, RowWord, push_row, push_rows};

@@ -14,7 +14,7 @@ ghost use Rattle.ib_lane_verdict.specs.LaneJudgements.{IsLaneJudgement};
 ghost use Rattle.ib_lane_verdict.specs.LaneVerdict.{IsLaneVerdict, IsLeastLaneLoop, LaneCycleIs, lane_spot_at};
 
 use crate::verdict::{LaneLoopChannel, LaneVerdict};
-use an_base::memory::OutOfMemory;
+use common_values::memory::OutOfMemory;
 use channel_graph::graph::Graph;
 use channel_graph::verdict::{Verdict as GraphVerdict, verdict_of};
 use ib_lane_routes::routing::LaneRouting;

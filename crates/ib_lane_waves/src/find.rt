@@ -18,7 +18,7 @@ use crate::mark::clear;
 use crate::room::Rooms;
 use crate::start::{begin_all, put_owned, put_sent};
 use crate::wave::run;
-use an_base::memory::OutOfMemory;
+use common_values::memory::OutOfMemory;
 use channel_graph::graph::Graph;
 use ib_lane_routes::routing::LaneRouting;
 use ib_net::fabric::Fabric;

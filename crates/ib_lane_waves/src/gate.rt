@@ -6,7 +6,7 @@ ghost use Rattle.ib_routes.specs.Routes.{IsSource};
 ghost use Rattle.ib_lane_waves.specs.LaneGates.{AreAlike, AreGatesBelow, AreGatesOn, AreLastGates, AreMoreSpots, IsGateFor, IsGateOf};
 ghost use Rattle.ib_lane_waves.specs.LaneGates.{place_in, source_at, source_count};
 
-use an_base::memory::OutOfMemory;
+use common_values::memory::OutOfMemory;
 use ib_lane_routes::routing::LaneRouting;
 use ib_lane_routes::start::begin_at;
 use ib_net::fabric::Fabric;

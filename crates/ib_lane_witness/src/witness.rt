@@ -16,7 +16,7 @@ ghost use Rattle.ib_lane_witness.specs.Search.{Takes, TakesAs, count_of, end_at}
 ghost use Rattle.ib_lane_witness.specs.Witness.{HasNoLaneWitness, lane_channel_of};
 
 use crate::walk::goes_by;
-use an_base::memory::OutOfMemory;
+use common_values::memory::OutOfMemory;
 use ib_lane_routes::hop::LaneHop;
 use ib_lane_routes::routing::LaneRouting;
 use ib_lane_routes::start::begin_at;

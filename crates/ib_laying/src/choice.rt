@@ -6,7 +6,7 @@ ghost use Rattle.ib_laying.specs.Made.{AreTablesFor};
 use crate::laying::Laying;
 use crate::measures::Measures;
 use crate::writing::write_tables;
-use an_base::memory::OutOfMemory;
+use common_values::memory::OutOfMemory;
 use ib_cells::cells::Cells;
 use ib_channels::channels::Channels;
 use ib_channels::demand::Demand;

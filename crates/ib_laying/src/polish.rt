@@ -1,6 +1,6 @@
 //! Single exits moved so that routes are spread better over the channels.
 
-use an_base::memory::OutOfMemory;
+use common_values::memory::OutOfMemory;
 use ib_channels::amount::Change;
 use ib_channels::channels::Channel;
 use ib_channels::table::narrow;

@@ -7,7 +7,7 @@ ghost use Rattle.ib_levels.specs.Levels.{any_source, level_told, none_told, sour
 ghost use Rattle.ib_levels.specs.Readings.{IsEndOf, IsFit, told_of};
 
 use crate::line::{LevelLine, level_line};
-use an_base::memory::OutOfMemory;
+use common_values::memory::OutOfMemory;
 use ib_net::fabric::Fabric;
 use ib_net::node::EndPort;
 use ib_reader::takes::TakesLines;

@@ -1,6 +1,6 @@
 //! What the program answers.
 
-use an_base::text::Word;
+use common_values::text::Word;
 
 /// What was read.
 #[derive(Clone, Copy)]

@@ -3,7 +3,7 @@
 ghost use Rattle.std.specs.Prelude.{◌≡◌, ◌++◌, ◌∷◌, [], OnOk, MatchOption};
 ghost use Rattle.ib_lines.specs.Pictures.{escape, escaped, label_word, lane_label, loop_word};
 
-use an_base::text::push_decimal;
+use common_values::text::push_decimal;
 use std::alloc::{AllocError, Global};
 
 /// Appends the label of a switch with a name.

@@ -8,7 +8,7 @@ ghost use Rattle.ib_lines.specs.RowWords.{word_text};
 use crate::answer::{LoopStep, Name};
 use crate::row::RowWord::{Closed, Label, Loop, Number, Quoted, Text};
 use crate::row::{HasRow, RowWord, push_row, push_rows};
-use an_base::memory::OutOfMemory;
+use common_values::memory::OutOfMemory;
 use std::alloc::Global;
 
 /// A channel of a credit loop.

@@ -8,7 +8,7 @@ ghost use Rattle.ib_lines.specs.RowWords.{word_text};
 use crate::answer::{Answer, LoopStep, Lost, LostCounts, Name, Read, Routes, WhyLost};
 use crate::row::RowWord::{Guid, Number, Text};
 use crate::row::{HasRow, RowWord, push_row, push_rows};
-use an_base::memory::OutOfMemory;
+use common_values::memory::OutOfMemory;
 use std::alloc::Global;
 
 /// The text of an answer.

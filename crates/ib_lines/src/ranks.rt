@@ -8,7 +8,7 @@ use crate::answer::LoopStep;
 use crate::printer::push_judged;
 use crate::row::RowWord::{Guid, Number, Text};
 use crate::row::{HasRow, push_row, push_rows};
-use an_base::memory::OutOfMemory;
+use common_values::memory::OutOfMemory;
 use std::alloc::Global;
 
 /// The rank of a channel.

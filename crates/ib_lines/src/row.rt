@@ -7,8 +7,8 @@ ghost use Rattle.ib_lines.specs.Pictures.{closed_word, label_word, switch_word};
 ghost use Rattle.ib_lines.specs.RowWords.{word_text};
 
 use crate::label::{push_label, push_loop, push_on_lane};
-use an_base::memory::OutOfMemory;
-use an_base::text::push_decimal;
+use common_values::memory::OutOfMemory;
+use common_values::text::push_decimal;
 use std::alloc::{AllocError, Global};
 use text_lines::spelling::push_hex;
 

@@ -8,7 +8,7 @@ ghost use Rattle.ib_mixtures.specs.Mixtures.{MayBeFollowed};
 ghost use Rattle.ib_mixtures.specs.Steps.{AreSteps, IsGrown, IsTurnAt, IsTurnBelow, IsTurnBy, IsTurnFrom, IsTurnTo};
 
 use crate::look::{are_same, hop_for, lids_of, port_for};
-use an_base::memory::OutOfMemory;
+use common_values::memory::OutOfMemory;
 use channel_graph::graph::Graph;
 use ib_cells::cells::Cells;
 use ib_net::fabric::Fabric;

@@ -14,7 +14,7 @@ ghost use Rattle.ib_mixtures.specs.Verdict.{CycleIs, HasLoop, HasNoLoop, IsJudge
 use crate::follow::find_followers;
 use crate::looped::Looped;
 use crate::turn::{Turn, find_turn};
-use an_base::memory::OutOfMemory;
+use common_values::memory::OutOfMemory;
 use channel_graph::graph::Graph;
 use channel_graph::verdict::{Verdict as GraphVerdict, verdict_of};
 use ib_cells::cells::Cells;

@@ -7,8 +7,8 @@ ghost use Rattle.ib_names.specs.Names.{AreNamesBy, AreNamesOf, braced, far_name,
 ghost use Rattle.ib_names.specs.Names.{near_braced, near_name, node_told, past, past_four, plain_name};
 ghost use Rattle.ib_names.specs.Names.{section_name};
 
-use an_base::memory::OutOfMemory;
-use an_base::text::Word;
+use common_values::memory::OutOfMemory;
+use common_values::text::Word;
 use ib_topology::discovered::quoted;
 use ib_topology::dumped::{far_parts, near_parts};
 use ib_topology::fact::{Fact, Part};

@@ -11,7 +11,7 @@ use Rattle.std.proofs.lemmas.List.Sorted.{Contains-permutation, IsPermutation-sy
 use Rattle.std.proofs.lemmas.Nat.{div-add-mod'}
 use Rattle.std.proofs.lemmas.Option.{same_Some}
 use Rattle.std.proofs.Math.Nat.{mod-lt}
-use Rattle.an_base.proofs.MemberLemmas.{one_rising}
+use Rattle.common_values.proofs.MemberLemmas.{one_rising}
 use Rattle.ib_net.specs.declared.node.EndPort.{EndPort}
 use Rattle.ib_net.specs.declared.node.LidRange.{LidRange}
 use Rattle.ib_net.specs.declared.node.NodeFault.{NodeFault}

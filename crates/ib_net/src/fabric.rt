@@ -15,7 +15,7 @@ ghost use Rattle.ib_net.specs.Fabric.{switch_count, switch_with};
 use crate::node::{EndPort, LidRange, LinkFault, Side, Spot, Switch};
 use crate::nodes::{LIDS, Nodes, end_of};
 use crate::side::{BARE, pack, unpack};
-use an_base::memory::OutOfMemory;
+use common_values::memory::OutOfMemory;
 use indexmap::IndexMap;
 use std::alloc::Global;
 use std::marker::Model;

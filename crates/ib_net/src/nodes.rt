@@ -7,7 +7,7 @@ ghost use Rattle.ib_net.specs.Nodes.{AddsEnd, AddsSwitch, AreRefused, IsAmong, I
 ghost use Rattle.ib_net.specs.Nodes.{IsRefusedEnd, IsRefusedSwitch, IsTaken, node_of};
 
 use crate::node::{LidRange, NodeFault, Switch};
-use an_base::memory::OutOfMemory;
+use common_values::memory::OutOfMemory;
 use indexmap::IndexMap;
 use std::alloc::Global;
 use std::marker::Model;

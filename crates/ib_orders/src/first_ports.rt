@@ -1,6 +1,6 @@
 //! An order in which the turns of given routes rise, if there is one.
 
-use an_base::memory::OutOfMemory;
+use common_values::memory::OutOfMemory;
 use ib_channels::amount::Change;
 use ib_channels::channels::{Channel, Channels};
 use ib_channels::order::Order;

@@ -1,6 +1,6 @@
 //! Levels of switches, and the orders up and then down by them.
 
-use an_base::memory::OutOfMemory;
+use common_values::memory::OutOfMemory;
 use ib_channels::channels::{Channel, Channels};
 use ib_channels::demand::Demand;
 use ib_channels::order::Order;

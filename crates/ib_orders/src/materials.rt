@@ -1,7 +1,7 @@
 //! What orders of channels are made of.
 
 use crate::weights::Weights;
-use an_base::memory::OutOfMemory;
+use common_values::memory::OutOfMemory;
 use ib_channels::channels::Channels;
 use ib_channels::demand::Demand;
 use ib_channels::table::Table;

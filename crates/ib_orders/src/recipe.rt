@@ -6,7 +6,7 @@ use crate::materials::{Materials, Wanted};
 use crate::sift::{Wishes, sift};
 use crate::spanning::Tree;
 use crate::weights::Weights;
-use an_base::memory::OutOfMemory;
+use common_values::memory::OutOfMemory;
 use ib_channels::channels::Channels;
 use ib_channels::demand::Demand;
 use ib_channels::order::Order;

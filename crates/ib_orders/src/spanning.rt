@@ -1,7 +1,7 @@
 //! Spanning trees.
 
 use crate::levels::up_down;
-use an_base::memory::OutOfMemory;
+use common_values::memory::OutOfMemory;
 use ib_channels::amount::Change;
 use ib_channels::channels::{Channel, Channels};
 use ib_channels::order::Order;

@@ -1,6 +1,6 @@
 //! How many routes make each turn.
 
-use an_base::memory::OutOfMemory;
+use common_values::memory::OutOfMemory;
 use ib_channels::channels::{Channel, Channels};
 use ib_channels::demand::Demand;
 use ib_channels::table::Table;

@@ -8,7 +8,7 @@ ghost use Rattle.ib_ranks.specs.Ranks.{AddsTo, IsFaultyAfter, head_told, none_to
 ghost use Rattle.ib_ranks.specs.Readings.{HasPlaces, told_of};
 
 use crate::line::{RankLine, said_by};
-use an_base::memory::OutOfMemory;
+use common_values::memory::OutOfMemory;
 use ib_net::fabric::Fabric;
 use ib_net::node::Side;
 use ib_words::ranks_cause::RanksCause;

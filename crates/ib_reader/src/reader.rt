@@ -11,7 +11,7 @@ ghost use Rattle.ib_reader.specs.Pieces.{is_feed, refused, GavePiece, IsFinished
 ghost use Rattle.ib_reader.specs.Pieces.{IsFirstFaulty, IsFirstTaken, IsLastRead, IsReadOn, IsStoppedLast, IsStoppedOn};
 
 use crate::takes::TakesLines;
-use an_base::memory::OutOfMemory;
+use common_values::memory::OutOfMemory;
 use ib_net::fabric::Fabric;
 use ib_words::text_cause::TextCause;
 use outside::source::{Got, Source};

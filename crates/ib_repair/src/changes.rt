@@ -1,7 +1,7 @@
 //! The rows that are set.
 
 use crate::task::Task;
-use an_base::memory::OutOfMemory;
+use common_values::memory::OutOfMemory;
 use ib_channels::channels::Channel;
 use ib_channels::table::Table;
 use std::alloc::Global;

@@ -3,7 +3,7 @@
 use crate::changes::{Changes, Row};
 use crate::routes::{NO_ROUTE, Routes};
 use crate::task::Task;
-use an_base::memory::OutOfMemory;
+use common_values::memory::OutOfMemory;
 use ib_channels::channels::Channel;
 use ib_channels::demand::Target;
 use ib_channels::order::Order;

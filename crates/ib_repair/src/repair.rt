@@ -13,7 +13,7 @@ use crate::task::{Parts, Task};
 use crate::weights::{reweigh, weigh};
 use crate::wishes::wish;
 use crate::writing::{copy_tables, write_tables};
-use an_base::memory::OutOfMemory;
+use common_values::memory::OutOfMemory;
 use ib_cells::cells::Cells;
 use ib_channels::channels::{Channel, Channels, Turn};
 use ib_channels::order::Order;

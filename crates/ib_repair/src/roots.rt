@@ -1,7 +1,7 @@
 //! Switches from which spanning trees are made, and these trees.
 
 use crate::task::Task;
-use an_base::memory::OutOfMemory;
+use common_values::memory::OutOfMemory;
 use ib_channels::channels::Channel;
 use ib_channels::order::Order;
 use ib_channels::table::Table;

@@ -1,7 +1,7 @@
 //! The routes to one target along an exit of each switch.
 
 use crate::task::Task;
-use an_base::memory::OutOfMemory;
+use common_values::memory::OutOfMemory;
 use ib_channels::channels::Channel;
 use ib_channels::demand::Target;
 use ib_channels::order::Order;

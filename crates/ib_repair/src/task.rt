@@ -1,6 +1,6 @@
 //! What is to be repaired.
 
-use an_base::memory::OutOfMemory;
+use common_values::memory::OutOfMemory;
 use ib_cells::cells::Cells;
 use ib_channels::channels::{Channel, Channels};
 use ib_channels::demand::{Demand, Target};

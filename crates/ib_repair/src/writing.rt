@@ -7,7 +7,7 @@ ghost use Rattle.ib_laying.specs.Made.{AreTablesFor};
 ghost use Rattle.ib_repair.specs.Repaired.{AllKept, AreFilledFrom, AreRepairedOf, HasKept};
 
 use crate::changes::Row;
-use an_base::memory::OutOfMemory;
+use common_values::memory::OutOfMemory;
 use ib_cells::cells::Cells;
 use ib_laying::writing::put_port;
 use ib_net::fabric::Fabric;

@@ -5,10 +5,10 @@ use Rattle.std.specs.List.{range_with_len}
 use Rattle.std.proofs.lemmas.Bool.{and_from, and_parts, both_ways, cases_Bool, cases_lt, cond-false, cond-true, cond_both, eq-eqb, eqb-true, not-false}
 use Rattle.std.proofs.lemmas.List.{get_or_past}
 use Rattle.std.proofs.lemmas.List.Elements.{All-cons, All-head, All-nil, All-tail}
-use Rattle.an_base.proofs.FlatMapLemmas.{All-flat_map, Contains-flat_map}
-use Rattle.an_base.proofs.ListLemmas.{All-from_members}
-use Rattle.an_base.proofs.MemberLemmas.{Contains-cons_cases, Contains-here}
-use Rattle.an_base.proofs.RangeLemmas.{in_range, within_range}
+use Rattle.common_values.proofs.FlatMapLemmas.{All-flat_map, Contains-flat_map}
+use Rattle.common_values.proofs.ListLemmas.{All-from_members}
+use Rattle.common_values.proofs.MemberLemmas.{Contains-cons_cases, Contains-here}
+use Rattle.common_values.proofs.RangeLemmas.{in_range, within_range}
 use Rattle.ib_net.specs.declared.node.EndPort.TheVariants as kind
 use Rattle.ib_net.specs.Fabric.{FabricOf, IsFabric, guid_of, switch_count, switch_with}
 use Rattle.ib_cells.specs.Cells.{CellsOf, TablesOf, tables_of}

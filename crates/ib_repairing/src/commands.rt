@@ -9,8 +9,8 @@ ghost use Rattle.ib_repairing.specs.Given.{AreRowsTold, IsNoneTold, WereMadeOf, 
 use crate::repaired::find_repaired;
 use crate::report::{Report, print_none, print_report};
 use crate::rows::{count_lids, rows_set};
-use an_base::memory::OutOfMemory;
-use an_base::text::Word;
+use common_values::memory::OutOfMemory;
+use common_values::text::Word;
 use ib_answering::command::{Command, Given};
 use ib_answering::input::Topology;
 use ib_answering::status::Status;

@@ -10,7 +10,7 @@ ghost use Rattle.ib_repairing.specs.Repairs.{rows_set};
 ghost use Rattle.ib_repairing.specs.SetRows.{with_rows};
 ghost use Rattle.ib_repairing.specs.Given.{WereMadeOf};
 
-use an_base::memory::OutOfMemory;
+use common_values::memory::OutOfMemory;
 use ib_answering::status::Status;
 use ib_cells::cells::Cells;
 use ib_commands::answer::status_of;

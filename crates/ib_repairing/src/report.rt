@@ -5,8 +5,8 @@ ghost use Rattle.text_lines.specs.Lines.{line_text, lines_text};
 ghost use Rattle.ib_repairing.specs.Reports.{apart_row, better_rows, counts_row, had_word, measures_row, none_text, repaired_row, report_text, set_row};
 
 use crate::rows::SetRow;
-use an_base::memory::OutOfMemory;
-use an_base::text::Word;
+use common_values::memory::OutOfMemory;
+use common_values::text::Word;
 use ib_laying::measures::Measures;
 use ib_net::fabric::Fabric;
 use ib_routing::apart::Pair;

@@ -10,7 +10,7 @@ ghost use Rattle.ib_repairing.specs.declared.rows.SetRow.{SetRow};
 ghost use Rattle.ib_repairing.specs.Flags.{AreFlagged};
 ghost use Rattle.ib_repairing.specs.Repairs.{IsSetFor, differs, row_at, rows_for, rows_set};
 
-use an_base::memory::OutOfMemory;
+use common_values::memory::OutOfMemory;
 use ib_cells::cells::Cells;
 use ib_net::fabric::Fabric;
 use ib_net::node::EndPort;

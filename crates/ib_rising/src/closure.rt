@@ -2,7 +2,7 @@
 
 use crate::plan::Plan;
 use crate::raising::{extend, raise};
-use an_base::memory::OutOfMemory;
+use common_values::memory::OutOfMemory;
 use ib_channels::channels::{Channel, Channels};
 use ib_channels::table::Table;
 use ib_channels::ways::{FAR, Ways};

@@ -1,7 +1,7 @@
 //! The exits between which the routes to the LIDs at one switch may choose.
 
 use crate::plan::Plan;
-use an_base::memory::OutOfMemory;
+use common_values::memory::OutOfMemory;
 use ib_channels::channels::Channel;
 use ib_channels::table::{Table, narrow};
 use ib_channels::ways::Ways;

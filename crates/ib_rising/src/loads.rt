@@ -2,7 +2,7 @@
 
 use crate::plan::Plan;
 use crate::rows::Rows;
-use an_base::memory::OutOfMemory;
+use common_values::memory::OutOfMemory;
 use ib_channels::amount::Change;
 use ib_channels::channels::{Channel, Channels};
 use ib_channels::table::Table;

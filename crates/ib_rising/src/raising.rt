@@ -1,7 +1,7 @@
 //! Ways turned so that more switches can join them.
 
 use crate::plan::Plan;
-use an_base::memory::OutOfMemory;
+use common_values::memory::OutOfMemory;
 use ib_channels::channels::Channel;
 use ib_channels::ways::{FAR, Ways};
 

@@ -1,6 +1,6 @@
 //! The exits of all switches for all targets.
 
-use an_base::memory::OutOfMemory;
+use common_values::memory::OutOfMemory;
 use ib_channels::channels::{Channel, Channels};
 use ib_channels::ways::Ways;
 use std::alloc::Global;

@@ -3,9 +3,9 @@ use Rattle.std.proofs.Common.{◌≡◌, ◌≢◌, ◌∙◌, sym, subst, refl,
 use Rattle.std.proofs.lemmas.List.{length-map}
 use Rattle.std.proofs.lemmas.List.Elements.{All-contains, Contains-append_cases, Contains-append_left, Contains-append_right, Contains-push, Contains-push_cases}
 use Rattle.std.proofs.lemmas.List.Kept.{AllPairs-cons}
-use Rattle.an_base.proofs.ListLemmas.{AllPairs-head, AllPairs-tail, All-from_members}
-use Rattle.an_base.proofs.MemberLemmas.{Any-from_map, Contains-cons_cases, Contains-here, Contains-image, Contains-later}
-use Rattle.an_base.proofs.PairLemmas.{AllPairs-append, AllPairs-map, apart_push}
+use Rattle.common_values.proofs.ListLemmas.{AllPairs-head, AllPairs-tail, All-from_members}
+use Rattle.common_values.proofs.MemberLemmas.{Any-from_map, Contains-cons_cases, Contains-here, Contains-image, Contains-later}
+use Rattle.common_values.proofs.PairLemmas.{AllPairs-append, AllPairs-map, apart_push}
 use Rattle.ib_routes.specs.Counting.{IsCountOf}
 
 module _ (A : Type 0) where

@@ -14,7 +14,7 @@ use crate::link::find_links;
 use crate::sender::{Senders, find_senders, put_starts};
 use crate::traffic::Traffic;
 use crate::wave::run;
-use an_base::memory::OutOfMemory;
+use common_values::memory::OutOfMemory;
 use channel_graph::graph::Graph;
 use ib_cells::cells::Cells;
 use ib_net::fabric::Fabric;

@@ -9,7 +9,7 @@ ghost use Rattle.ib_routes.specs.Routes.{hop};
 ghost use Rattle.ib_routes.specs.declared.hop.Hop.TheVariants.{On};
 
 use crate::word::{has_bit, with_bit};
-use an_base::memory::OutOfMemory;
+use common_values::memory::OutOfMemory;
 use ib_cells::cells::Cells;
 use ib_net::fabric::Fabric;
 use ib_net::node::Side;

@@ -18,7 +18,7 @@ use crate::audience::{Targets, targets_of};
 use crate::start::is_owner;
 use crate::traffic::Traffic;
 use crate::word::{fresh_of, with_bit};
-use an_base::memory::OutOfMemory;
+use common_values::memory::OutOfMemory;
 use ib_cells::cells::Cells;
 use ib_net::fabric::Fabric;
 use ib_net::node::EndPort;

@@ -15,7 +15,7 @@ use crate::audience::{Audience, audience_of, sender_start};
 use crate::hop::{Hop, Outcome, hop_at};
 use crate::trace::{Mark, Target, trace};
 use crate::traffic::Traffic;
-use an_base::memory::OutOfMemory;
+use common_values::memory::OutOfMemory;
 use ib_cells::cells::Cells;
 use ib_net::fabric::Fabric;
 use ib_net::node::{EndPort, Spot};

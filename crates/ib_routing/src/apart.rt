@@ -9,7 +9,7 @@ ghost use Rattle.ib_routing.specs.Joined.{AllJoined, IsApart};
 ghost use Rattle.ib_routing.specs.Parts.{AllJoinedBy, AreLabels, IsApartBy, IsOtherSource, IsOtherTarget, label_of};
 
 use crate::parts::labels_of;
-use an_base::memory::OutOfMemory;
+use common_values::memory::OutOfMemory;
 use ib_net::fabric::Fabric;
 use ib_net::node::EndPort;
 use ib_routes::start::{begins_at, is_source, is_target};

@@ -4,7 +4,7 @@ ghost use Rattle.std.specs.Prelude.{◌≡◌, IfOk, map};
 ghost use Rattle.text_lines.specs.Lines.{line_text};
 ghost use Rattle.ib_routing.specs.Routed.{apart_words, code_of, measure_words, none_words};
 
-use an_base::memory::OutOfMemory;
+use common_values::memory::OutOfMemory;
 use ib_laying::measures::Measures;
 use ib_tables_text::printer::guid_word;
 use std::alloc::Global;

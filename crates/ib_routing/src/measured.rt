@@ -5,7 +5,7 @@ ghost use Rattle.ib_cells.specs.Cells.{tables_of};
 ghost use Rattle.ib_net.specs.Fabric.{switch_count};
 ghost use Rattle.ib_routing.specs.Measured.{AreMeasures};
 
-use an_base::memory::OutOfMemory;
+use common_values::memory::OutOfMemory;
 use ib_cells::cells::Cells;
 use ib_counts::count::count_routes;
 use ib_laying::measures::Measures;

@@ -17,7 +17,7 @@ ghost use Rattle.ib_routing.specs.Routed.{IsGiven, IsGivenFor, IsRouteAnswer};
 use crate::apart::{Pair, find_apart};
 use crate::end::{End, apart_line, measure_line, none_line};
 use crate::measured::measured;
-use an_base::memory::OutOfMemory;
+use common_values::memory::OutOfMemory;
 use calling::end::tell;
 use ib_answering::input::read_topology;
 use ib_answering::status::{Status, finish};

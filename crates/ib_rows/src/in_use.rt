@@ -11,7 +11,7 @@ ghost use Rattle.ib_rows.specs.PathLevels.{IsPlaced, told_levels};
 
 use crate::lanes::LEVELS;
 use crate::levels::{LevelRows, Levels};
-use an_base::memory::OutOfMemory;
+use common_values::memory::OutOfMemory;
 use ib_net::fabric::Fabric;
 use ib_net::node::EndPort;
 use std::alloc::Global;

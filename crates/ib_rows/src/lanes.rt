@@ -6,7 +6,7 @@ ghost use Rattle.std.specs.Bool.{OnTrue, OnFalse};
 ghost use Rattle.ib_rows.specs.Lanes.{HasNoOtherRow, HasOtherRow, HasRowAt, IsCountOf, IsLaneCount, IsRowPut, KeepsRows, lane_in};
 ghost use Rattle.ib_rows.specs.Lanes.{lanes_of, told_row};
 
-use an_base::memory::OutOfMemory;
+use common_values::memory::OutOfMemory;
 use indexmap::IndexSet;
 use std::alloc::Global;
 use std::marker::Model;

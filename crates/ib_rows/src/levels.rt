@@ -10,7 +10,7 @@ ghost use Rattle.ib_rows.specs.PathLevels.{HaveSameLevels, IsPlaced, KeepsBlocks
 ghost use Rattle.ib_rows.specs.PathLevels.{SaysAsMuch, block_word, told_levels, place_of_source, stored_at};
 
 use crate::lanes::LEVELS;
-use an_base::memory::OutOfMemory;
+use common_values::memory::OutOfMemory;
 use ib_net::node::EndPort;
 use indexmap::IndexSet;
 use std::alloc::Global;

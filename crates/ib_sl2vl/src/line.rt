@@ -6,7 +6,7 @@ ghost use Rattle.ib_sl2vl.specs.LaneLines.{lanes_in, packed, port_in, row_said, 
 ghost use Rattle.ib_sl2vl.specs.LaneLines.{asked_head, asked_lid, asked_row, front_lid, is_parting, said_by};
 ghost use Rattle.ib_sl2vl.specs.LaneLines.{said_in, spaced};
 
-use an_base::memory::OutOfMemory;
+use common_values::memory::OutOfMemory;
 use ib_reader::reader::MOST_LINE;
 use ib_words::cut::{after, begins, cut};
 use ib_words::digits::number_to;

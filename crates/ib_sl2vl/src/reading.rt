@@ -9,7 +9,7 @@ ghost use Rattle.ib_sl2vl.specs.Lanes.{row_told, told_with};
 ghost use Rattle.ib_sl2vl.specs.Readings.{IsFit, KeepsSize, switch_in, told_of};
 
 use crate::line::{LaneLine, lane_line};
-use an_base::memory::OutOfMemory;
+use common_values::memory::OutOfMemory;
 use ib_net::fabric::Fabric;
 use ib_net::node::EndPort;
 use ib_reader::takes::TakesLines;

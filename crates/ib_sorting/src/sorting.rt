@@ -1,7 +1,7 @@
 //! An order of the channels that is changed so that more and more turns rise.
 
 use crate::effort::Effort;
-use an_base::memory::OutOfMemory;
+use common_values::memory::OutOfMemory;
 use ib_channels::channels::{Channel, Channels, Turn};
 use ib_channels::order::Order;
 use ib_channels::table::Table;

@@ -14,7 +14,7 @@ ghost use Rattle.ib_tables.specs.Readings.{switch_in, told_of, IsFit, IsUnicast,
 use crate::cause::TablesCause;
 use crate::first::first_row;
 use crate::line::{TableLine, TablesStop, table_line};
-use an_base::memory::OutOfMemory;
+use common_values::memory::OutOfMemory;
 use ib_cells::cells::Cells;
 use ib_net::fabric::Fabric;
 use ib_reader::takes::TakesLines;

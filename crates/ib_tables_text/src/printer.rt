@@ -8,7 +8,7 @@ ghost use Rattle.ib_tables.specs.declared.reading.Part.TheVariants.{Dumped};
 ghost use Rattle.ib_tables_text.specs.Texts.{IsTextOf, guid_word};
 ghost use Rattle.ib_tables_text.specs.Printed.{HasPrinted, end_words, head_words, none_rows, part_at, row_words};
 
-use an_base::memory::OutOfMemory;
+use common_values::memory::OutOfMemory;
 use ib_cells::cells::Cells;
 use ib_net::fabric::Fabric;
 use ib_net::node::EndPort;

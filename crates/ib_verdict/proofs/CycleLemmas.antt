@@ -2,7 +2,7 @@
 use Rattle.std.proofs.Common.{◌≡◌, ◌∙◌, sym, ap, subst, refl, List, [], ◌∷◌, Bool, true, false, cond, ◌&&◌, ◌==◌, inl, inr, arith}
 use Rattle.std.specs.Prelude.{Contains}
 use Rattle.std.proofs.lemmas.Bool.Decides.{nat_tests}
-use Rattle.an_base.proofs.MemberLemmas.{Contains-cons_cases}
+use Rattle.common_values.proofs.MemberLemmas.{Contains-cons_cases}
 use Rattle.channel_graph.specs.Cycles.{IsCycle, Path}
 use Rattle.ib_routes.specs.Routes.{Channel}
 use Rattle.ib_verdict.proofs.RingLemmas.{same_channel}

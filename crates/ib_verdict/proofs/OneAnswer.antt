@@ -1,9 +1,9 @@
 -- The verdict is one.
 use Rattle.std.proofs.Common.{◌≡◌, ◌∙◌, sym, ap, subst, refl, ℕ, ◌⊎◌, List, [], ◌∷◌, Equal, map, inl, inr, arith}
-use Rattle.an_base.proofs.OrderLaws.{nat_apart}
+use Rattle.common_values.proofs.OrderingLemmas.{nat_apart}
 use Rattle.std.specs.Ordering.{nat_cmp}
 use Rattle.std.specs.Cmp.{IsTotalOrder, then_total, on_total, nat_cmp_total}
-use Rattle.an_base.proofs.OrderingLemmas.{then_equal}
+use Rattle.common_values.proofs.OrderingLemmas.{then_equal}
 use Rattle.channel_graph.proofs.OneAnswer.{no_both, one_cycle, one_rank}
 use Rattle.ib_cells.specs.Cells.{TablesOf}
 use Rattle.ib_net.specs.declared.node.Side.{Side}

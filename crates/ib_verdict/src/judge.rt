@@ -11,7 +11,7 @@ ghost use Rattle.ib_verdict.specs.Verdict.{CycleIs, IsLeastLoop, IsVerdict, spot
 
 use crate::count::count_steps;
 use crate::verdict::{LoopChannel, Verdict};
-use an_base::memory::OutOfMemory;
+use common_values::memory::OutOfMemory;
 use channel_graph::graph::Graph;
 use channel_graph::verdict::{Verdict as GraphVerdict, verdict_of};
 use ib_cells::cells::Cells;

@@ -8,7 +8,7 @@ ghost use Rattle.ib_routes.specs.Finding.{AreDependencies};
 ghost use Rattle.ib_verdict.specs.Verified.{Fall, IsFirstRise, IsVerified};
 
 use crate::judge::{spot_of, witness_of};
-use an_base::memory::OutOfMemory;
+use common_values::memory::OutOfMemory;
 use channel_graph::graph::{Graph, Step};
 use channel_graph::ranks::first_rise;
 use ib_cells::cells::Cells;

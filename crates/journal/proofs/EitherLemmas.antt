@@ -21,7 +21,7 @@ use Rattle.net_script.specs.Scripts.{ScriptOf, IsScript}
 use Rattle.text_lines.specs.Words.{is_number, is_number_in, number_value}
 use Rattle.text_lines.proofs.ChoiceLemmas.{branch, mapped, word_is}
 use Rattle.net_script.proofs.FormOf.{wire_of, wire_is}
-use Rattle.an_base.proofs.ListLemmas.{some_is}
+use Rattle.common_values.proofs.ListLemmas.{some_is}
 use Rattle.text_lines.proofs.NameLemmas.{place_found}
 use Rattle.journal_cause.specs.declared.cause.JournalCause.{JournalCause}
 use Rattle.journal_cause.specs.declared.cause.JournalCause.TheVariants.{BadHeader, UnknownWord, BadNumber, NoSuchName, NoEnd}

@@ -5,7 +5,7 @@ ghost use Rattle.std.specs.List.{list_all};
 ghost use Rattle.journal.specs.Words.{words_of, is_line_byte, has_words};
 ghost use Rattle.journal.specs.Texts.{IsFirstLine};
 
-use an_base::memory::OutOfMemory;
+use common_values::memory::OutOfMemory;
 use memchr::memchr;
 use text_lines::line::first_of;
 

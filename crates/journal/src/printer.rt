@@ -10,7 +10,7 @@ ghost use Rattle.journal.specs.Ready.{AreLinesOf, AreReady, AreTakesOf};
 
 use an_base::event::{Event, Journal};
 use an_base::limits::LAST_PORT;
-use an_base::memory::OutOfMemory;
+use common_values::memory::OutOfMemory;
 use an_base::place::Place;
 use an_base::port::Port;
 use itoa::Buffer;

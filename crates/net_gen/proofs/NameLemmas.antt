@@ -8,7 +8,7 @@ use Rattle.std.proofs.lemmas.Bool.{and_parts}
 use Rattle.std.proofs.lemmas.Bool.Decides.{nat_tests}
 use Rattle.std.proofs.lemmas.Fmt.{decimal_injective, digits_decimal, length-decimal-le}
 use Rattle.std.proofs.lemmas.List.FromFn.{length-range_with_len, get_or-range_with_len}
-use Rattle.an_base.proofs.MemberLemmas.{Any-from_map}
+use Rattle.common_values.proofs.MemberLemmas.{Any-from_map}
 use Rattle.text_lines.specs.Words.{is_name_byte, IsName}
 use Rattle.text_lines.proofs.WordLemmas.{own}
 

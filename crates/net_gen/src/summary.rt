@@ -3,8 +3,8 @@
 ghost use Rattle.std.specs.Prelude.{◌≡◌, ◌++◌, count_by, length, IfOk, OnOk};
 ghost use Rattle.net_gen.specs.Summary.{IsComment, IsSummary, counted, end_word, is_delivery, is_drop, line_on};
 
-use an_base::memory::OutOfMemory;
-use an_base::text::push_decimal;
+use common_values::memory::OutOfMemory;
+use common_values::text::push_decimal;
 use fabric_book::solo::{ToldRun, solo};
 use fabric_state::ending::Ending;
 use fabric_state::line::Line;

@@ -10,7 +10,7 @@ use crate::next::next_from;
 use crate::tree::component_of;
 use crate::wiring::Wiring;
 use an_base::entry::Entries;
-use an_base::memory::OutOfMemory;
+use common_values::memory::OutOfMemory;
 use std::alloc::Global;
 
 // A mark for each switch. It stays while the switch is in no component that was found.

@@ -6,7 +6,7 @@ ghost use Rattle.net_graph.specs.Wires.{IsWired, network};
 ghost use Rattle.net_graph.specs.Levels.{level_at, HasNeighbourAt, IsRound, IsReached, AreDistances};
 
 use crate::wiring::Wiring;
-use an_base::memory::OutOfMemory;
+use common_values::memory::OutOfMemory;
 use an_base::place::Place;
 use an_base::port::Port;
 use std::alloc::Global;

@@ -15,7 +15,7 @@ use crate::wiring::Wiring;
 use an_base::entry::{Entries, Entry};
 use an_base::life::End;
 use an_base::links::{Links, PortLink};
-use an_base::memory::OutOfMemory;
+use common_values::memory::OutOfMemory;
 use an_base::place::Place;
 use an_base::port::Port;
 use an_base::position::Position;

@@ -5,7 +5,7 @@ use Rattle.std.specs.Str.{bytes_eq}
 use Rattle.std.proofs.lemmas.Bool.{and_parts}
 use Rattle.std.proofs.lemmas.Bool.Decides.{nat_tests}
 use Rattle.std.proofs.lemmas.List.Quantifiers.{position-Some}
-use Rattle.an_base.proofs.ListLemmas.{some_is}
+use Rattle.common_values.proofs.ListLemmas.{some_is}
 use Rattle.text_lines.specs.Words.{is_name, is_number, is_number_in, number_value}
 use Rattle.text_lines.specs.Faults.{unless}
 use Rattle.text_lines.specs.Names.{place_of}

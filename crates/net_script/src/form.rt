@@ -25,7 +25,7 @@ use crate::field::{
 use crate::script::Script;
 use crate::setting::Setting;
 use an_base::event::Event;
-use an_base::text::Word;
+use common_values::text::Word;
 use net_graph::wiring::{HostOn, LinkAt, MOST_HOSTS, SwitchAt};
 use std::alloc::Global;
 use text_lines::stop::Stop;

@@ -4,7 +4,7 @@ ghost use Rattle.std.specs.Prelude.{◌≡◌, ◌+◌, ◌-◌, ◌<◌, ◌≤
 ghost use Rattle.ordered_link.specs.Sending.{Sending, IsDue, IsOut, IsKeptOf, acknowledge, forget, next_to_send, push, send_again, send_next, sent_by_ack, sent_by_push, unused};
 
 use an_base::body::Body;
-use an_base::memory::OutOfMemory;
+use common_values::memory::OutOfMemory;
 use std::alloc::Global;
 use std::collections::VecDeque;
 use std::marker::Model;

@@ -6,7 +6,7 @@ ghost use Rattle.outside.specs.Stops.{OnFault, IfOver};
 
 use crate::sink::{Sink, Took};
 use crate::source::{Got, Source};
-use an_base::text::Bytes;
+use common_values::text::Bytes;
 use std::alloc::Global;
 
 /// Why a source was not read to its end, or not kept whole.

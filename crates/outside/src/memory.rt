@@ -8,7 +8,7 @@ ghost use Rattle.outside.specs.Memory.{seen_source, seen_sink, read_answer, afte
 
 use crate::sink::{Sink, Took};
 use crate::source::{Got, Source};
-use an_base::memory::OutOfMemory;
+use common_values::memory::OutOfMemory;
 use std::alloc::Global;
 use std::marker::Model;
 

@@ -7,7 +7,7 @@ ghost use Rattle.std.specs.Prelude.{◌≡◌, ◌<◌, ◌∷◌, [], ℕ, List
 ghost use Rattle.text_lines.specs.Lines.{is_blank, lines_of, without_comment, words_of};
 ghost use Rattle.replay.specs.Division.{IsBack, IsDivision, after_end, from_words, has_words, is_end_line};
 
-use an_base::memory::OutOfMemory;
+use common_values::memory::OutOfMemory;
 use std::alloc::Global;
 use text_lines::line::{first_line, first_of};
 

@@ -4,7 +4,7 @@ ghost use Rattle.std.specs.Prelude.{◌≡◌};
 ghost use Rattle.replay.specs.Replays.{as_replayed};
 ghost use Rattle.replay.specs.declared.refusal.ReplayRefusal.TheVariants as refusal;
 
-use an_base::memory::OutOfMemory;
+use common_values::memory::OutOfMemory;
 use journal::reader::JournalRefusal;
 use journal_cause::cause::JournalCause;
 

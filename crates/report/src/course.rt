@@ -8,7 +8,7 @@ ghost use Rattle.report.specs.Retellings.{Comes};
 
 use an_base::event::Event;
 use an_base::life::Life;
-use an_base::memory::OutOfMemory;
+use common_values::memory::OutOfMemory;
 use an_base::place::Place;
 use net_script::script::Script;
 use std::alloc::Global;

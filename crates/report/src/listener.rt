@@ -10,7 +10,7 @@ ghost use Rattle.replay.specs.Replays.{HasMade, IfIllegal, IsNoReplay, IsRefusal
 ghost use Rattle.report.specs.Moments.{IsHeard, IsTold, IsToldOf, Moment};
 
 use an_base::event::{Event, Journal};
-use an_base::memory::OutOfMemory;
+use common_values::memory::OutOfMemory;
 use fabric_book::lines::Lines;
 use fabric_book::net::Net;
 use fabric_state::ending::Ending;

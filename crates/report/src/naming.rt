@@ -11,7 +11,7 @@ ghost use Rattle.report.specs.Remembering.{own_address, source_with, with_arriva
 
 use crate::listener::{Listener, tell};
 use an_base::event::Event;
-use an_base::memory::OutOfMemory;
+use common_values::memory::OutOfMemory;
 use fabric_book::net::Net;
 use fabric_state::ending::Ending;
 use fabric_state::fabric::Fabric;

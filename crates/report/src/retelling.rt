@@ -17,7 +17,7 @@ ghost use Rattle.report.specs.Retellings.{HasCome, IsNotNext, IsRetelling, told_
 use crate::reporter::Report;
 use crate::telling::{Telling, first_line};
 use an_base::event::{Event, Journal};
-use an_base::memory::OutOfMemory;
+use common_values::memory::OutOfMemory;
 use an_base::row::Row;
 use fabric_book::account::Account;
 use fabric_state::ending::Ending;

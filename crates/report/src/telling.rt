@@ -22,7 +22,7 @@ use crate::course::Course;
 use crate::listener::Listener;
 use an_base::event::Event;
 use an_base::life::{End, Life};
-use an_base::memory::OutOfMemory;
+use common_values::memory::OutOfMemory;
 use an_base::place::Place;
 use an_base::port::{Port, PortState};
 use an_base::row::Row;

@@ -5,7 +5,7 @@ ghost use Rattle.std.specs.Fmt.{decimal};
 ghost use Rattle.row_text.specs.Decimals.{AreDecimals};
 
 use crate::piece::push_bytes;
-use an_base::text::{Word, push_decimal};
+use common_values::text::{Word, push_decimal};
 use std::alloc::{AllocError, Global};
 
 // A number in decimal.

@@ -5,7 +5,7 @@ ghost use Rattle.row_text.specs.Names.{life_text, name_of, switch_name};
 
 use an_base::entry::Entry;
 use an_base::life::Life;
-use an_base::text::push_decimal;
+use common_values::text::push_decimal;
 use net_graph::wiring::SwitchAt;
 use net_script::script::Script;
 use std::alloc::{AllocError, Global};

@@ -13,7 +13,7 @@ use Rattle.net_graph.specs.declared.wiring.SwitchAt.{SwitchAt}
 use Rattle.net_graph.specs.declared.wiring.LinkAt.{LinkAt}
 use Rattle.net_graph.specs.declared.wiring.HostOn.{HostOn}
 use Rattle.net_graph.specs.Wires.{IsSwitch, IsLink, IsHost, uids, used_ports, link_ends, a_end, b_end, host_end}
-use Rattle.an_base.proofs.PairLemmas.{AllPairs-front}
+use Rattle.common_values.proofs.PairLemmas.{AllPairs-front}
 use Rattle.net_script.specs.declared.command.Command.{Command}
 use Rattle.net_script.specs.declared.command.LinkChange.{LinkChange}
 use Rattle.net_script.specs.declared.command.WireChange.{WireChange}

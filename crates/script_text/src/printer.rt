@@ -9,7 +9,7 @@ ghost use Rattle.net_script.specs.Commands.{IsCommand};
 ghost use Rattle.script_text.specs.Canonical.{canonical_text, setting_forms, setting_form, pace_form, routes_form, switch_form, switch_forms, link_form, link_forms, host_form, host_forms, command_form, command_forms, forms_text, spaced_numbers};
 
 use an_base::event::Event;
-use an_base::memory::OutOfMemory;
+use common_values::memory::OutOfMemory;
 use an_base::place::Place;
 use itoa::Buffer;
 use net_graph::wiring::{HostOn, LinkAt, SwitchAt};

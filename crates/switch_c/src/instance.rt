@@ -11,7 +11,7 @@ use crate::shown::{FrameShown, MemberShown, PortShown, RowShown, Shown};
 use crate::status::Status;
 use an_base::life::Life;
 use an_base::limits::{LAST_PORT, MOST_NUMBER, PORTS};
-use an_base::memory::OutOfMemory;
+use common_values::memory::OutOfMemory;
 use an_base::port::Sample;
 use std::alloc::Global;
 use switch_core::out::{FrameOut, Out};

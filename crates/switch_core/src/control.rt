@@ -18,7 +18,7 @@ use an_base::body::{Body, TopoBody};
 use an_base::frame::{CarryFrame, Frame};
 use an_base::life::{End, Life};
 use an_base::links::{Links, PortLink};
-use an_base::memory::OutOfMemory;
+use common_values::memory::OutOfMemory;
 use an_base::port::{Note, PortState, PortView, Ports, Sample};
 use epoch_core::epoch::Core;
 use epoch_core::sends::{Outgoing, Sends};

@@ -10,7 +10,7 @@ ghost use Rattle.switch_core.specs.Switch.{at_port, is_unacked};
 ghost use Rattle.switch_core.specs.Sessions.{AreSessions, IsNew, IsOutAt, IsSessionOf, OfSender, Receives, ReceivesBy, Sends, SendsBy, wanted};
 
 use an_base::body::Body;
-use an_base::memory::OutOfMemory;
+use common_values::memory::OutOfMemory;
 use ordered_link::receiver::{Receiver, Verdict};
 use ordered_link::sender::Sender;
 use std::alloc::Global;

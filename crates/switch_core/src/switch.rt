@@ -12,7 +12,7 @@ use crate::control::{Control, PowerOn};
 use crate::out::Out;
 use an_base::body::TopoBody;
 use an_base::life::Life;
-use an_base::memory::OutOfMemory;
+use common_values::memory::OutOfMemory;
 use an_base::port::{Note, Sample};
 use std::alloc::Global;
 use std::marker::Model;

@@ -5,7 +5,7 @@ ghost use Rattle.switch_numbering.specs.Numbering.{is_proposed, free, proposals,
 
 use an_base::entry::{Entries, Entry};
 use an_base::limits::MOST_NUMBER;
-use an_base::memory::OutOfMemory;
+use common_values::memory::OutOfMemory;
 use an_base::numbers::Numbers;
 use std::alloc::{AllocError, Global};
 

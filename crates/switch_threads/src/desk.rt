@@ -18,7 +18,7 @@ ghost use Rattle.switch_threads.specs.Runs.{HasCalled};
 ghost use Rattle.switch_threads.specs.Workers.{IsAsking, IsInStep, IsNext, IsToDo, IsToHandle, IsUpTo, done_with};
 
 use an_base::life::Life;
-use an_base::memory::OutOfMemory;
+use common_values::memory::OutOfMemory;
 use an_base::place::Place;
 use an_base::port::Note;
 use an_base::row::Row;

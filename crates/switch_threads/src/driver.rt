@@ -7,7 +7,7 @@ ghost use Rattle.fabric_turn.specs.Turnstiles.{TurnstileId};
 ghost use Rattle.switch_threads.specs.Runs.{HasCalled, IsToldAt, driver_seat};
 ghost use Rattle.switch_threads.specs.Workers.{IsDriving};
 
-use an_base::memory::OutOfMemory;
+use common_values::memory::OutOfMemory;
 use fabric_book::account::Account;
 use fabric_book::book::Book;
 use fabric_state::ending::Ending;

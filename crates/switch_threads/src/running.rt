@@ -15,7 +15,7 @@ use crate::gate::Gate;
 use crate::rousing::Roused;
 use crate::shift::{FIRST, Hall, Shift, Then, party_after};
 use crate::worker::Worker;
-use an_base::memory::OutOfMemory;
+use common_values::memory::OutOfMemory;
 use an_base::place::Place;
 use fabric_book::account::Account;
 use fabric_book::book::Book;

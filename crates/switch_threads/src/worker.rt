@@ -7,7 +7,7 @@ ghost use Rattle.switch_threads.specs.Runs.{HasCalled, IsToldAt};
 use crate::desk::{Desk, Next, Papers};
 use crate::gate::Gate;
 use crate::rousing::{Neighbours, Rousing};
-use an_base::memory::OutOfMemory;
+use common_values::memory::OutOfMemory;
 use an_base::place::Place;
 use fabric_book::account::Account;
 use fabric_book::book::Book;

@@ -1,6 +1,6 @@
 //! Why a line is not answered.
 
-use an_base::memory::OutOfMemory;
+use common_values::memory::OutOfMemory;
 use std::alloc::AllocError;
 
 /// Why a line is not answered.

@@ -9,7 +9,7 @@ ghost use Rattle.table_build.specs.Bests.{IsBetterOf, IsKnown, IsLonger, KnowsFa
 ghost use Rattle.table_build.specs.Links.{AreLinks, AreLinksBelow, link_at};
 
 use crate::link::{Link, Links};
-use an_base::memory::OutOfMemory;
+use common_values::memory::OutOfMemory;
 use std::alloc::Global;
 use std::marker::Model;
 use topo_graph::graph::Graph;

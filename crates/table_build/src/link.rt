@@ -3,7 +3,7 @@
 ghost use Rattle.std.specs.Prelude.{◌≡◌, ◌+◌, ◌<◌, [], length, IfOk, OnOk};
 ghost use Rattle.table_build.specs.Links.{AreLinks, AreLinksBelow};
 
-use an_base::memory::OutOfMemory;
+use common_values::memory::OutOfMemory;
 use std::alloc::Global;
 use topo_graph::graph::Graph;
 use updown::route::is_up_end;

@@ -5,7 +5,7 @@ ghost use Rattle.an_base.specs.Numbers.{AreNumbers};
 ghost use Rattle.table_build.specs.Routing.{ArePlaces, IsRouting, place_at};
 
 use crate::link::{Links, links_of};
-use an_base::memory::OutOfMemory;
+use common_values::memory::OutOfMemory;
 use an_base::numbers::Numbers;
 use std::alloc::Global;
 use std::marker::Model;

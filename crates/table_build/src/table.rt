@@ -9,7 +9,7 @@ use crate::exit::{is_entry, may_go_up};
 use crate::routing::Routing;
 use crate::way::{Way, ways_of};
 use an_base::life::Life;
-use an_base::memory::OutOfMemory;
+use common_values::memory::OutOfMemory;
 use an_base::numbers::Numbers;
 use an_base::row::{Exits, Row};
 use std::alloc::Global;

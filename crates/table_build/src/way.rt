@@ -10,7 +10,7 @@ ghost use Rattle.table_build.specs.Tables.{AreWays, IsWay};
 use crate::best::Bests;
 use crate::exit::exits;
 use crate::routing::Routing;
-use an_base::memory::OutOfMemory;
+use common_values::memory::OutOfMemory;
 use an_base::numbers::Numbers;
 use an_base::row::Exits;
 use std::alloc::Global;

@@ -5,7 +5,7 @@ ghost use Rattle.std.specs.List.{range_with_len};
 ghost use Rattle.net_graph.specs.Wires.{IsLink};
 ghost use Rattle.table_script.specs.Tables.{AreLabels};
 
-use an_base::memory::OutOfMemory;
+use common_values::memory::OutOfMemory;
 use net_graph::wiring::LinkAt;
 use net_script::script::Script;
 use std::alloc::Global;

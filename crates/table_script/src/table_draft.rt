@@ -4,7 +4,7 @@ ghost use Rattle.std.specs.Prelude.{◌≡◌, ◌<◌, ◌++◌, [], ◌∷◌,
 ghost use Rattle.table_script.specs.TableDrafts.{height_of, no_tables};
 ghost use Rattle.table_script.specs.TableRules.{is_numbered, is_labelled, is_entered, number_of};
 
-use an_base::memory::OutOfMemory;
+use common_values::memory::OutOfMemory;
 use an_base::place::Place;
 use an_base::port::Port;
 use an_base::row::Row;

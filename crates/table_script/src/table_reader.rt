@@ -18,7 +18,7 @@ use crate::table_draft::TableDraft;
 use crate::table_form::{read_row_words, read_table_form};
 use crate::table_words::{before_comment, next_word};
 use crate::tables::Tables;
-use an_base::memory::OutOfMemory;
+use common_values::memory::OutOfMemory;
 use an_base::place::Place;
 use net_script::cause::ScriptCause;
 use net_script::draft::{Draft, Part};

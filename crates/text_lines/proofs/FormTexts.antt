@@ -3,7 +3,7 @@ use Rattle.std.specs.List.{zip, flat_map, join_with_byte}
 use Rattle.std.proofs.lemmas.List.{take_more, map_push, map-append}
 use Rattle.std.proofs.lemmas.Grind.{flat_map-append}
 use Rattle.text_lines.specs.Lines.{line_text, forms_text_by}
-use Rattle.an_base.proofs.ListLemmas.{zip_push}
+use Rattle.common_values.proofs.ListLemmas.{zip_push}
 
 -- The text of lines of forms.
 module _ {Form : Type 0} (words_of_form : Form → List (List ℕ)) where

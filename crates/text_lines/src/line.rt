@@ -5,7 +5,7 @@ ghost use Rattle.std.specs.List.{list_all};
 ghost use Rattle.std.specs.Str.Lines.{strip_carriage_return};
 ghost use Rattle.text_lines.specs.Lines.{lines_of, words_of, parts_of, without_comment, is_line_byte, is_blank};
 
-use an_base::memory::OutOfMemory;
+use common_values::memory::OutOfMemory;
 use memchr::memchr;
 use std::alloc::Global;
 

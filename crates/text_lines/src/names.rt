@@ -3,8 +3,8 @@
 ghost use Rattle.std.specs.Prelude.{◌≡◌, ◌==◌, ◌-◌, ◌<◌, [], ◌∷◌, ◌++◌, length, take, Contains, IfSome, OnOk, OnErr, slice_index_or};
 ghost use Rattle.text_lines.specs.Names.{place_of};
 
-use an_base::memory::OutOfMemory;
-use an_base::text::Word;
+use common_values::memory::OutOfMemory;
+use common_values::text::Word;
 use indexmap::IndexSet;
 use std::alloc::Global;
 use std::marker::Model;

@@ -5,8 +5,8 @@ ghost use Rattle.std.specs.Fmt.{decimal};
 ghost use Rattle.text_lines.specs.Words.{hex_text, hex_glyph};
 ghost use Rattle.text_lines.specs.Lines.{line_text};
 
-use an_base::memory::OutOfMemory;
-use an_base::text::push_decimal;
+use common_values::memory::OutOfMemory;
+use common_values::text::push_decimal;
 use std::alloc::{AllocError, Global};
 
 /// Appends a line of words: they are joined by one space each, and a line feed follows. If no memory

@@ -5,7 +5,7 @@ ghost use Rattle.text_lines.specs.declared.stop.Stop.TheVariants as stop;
 ghost use Rattle.text_lines.specs.declared.stop.Refusal.TheVariants as refusal;
 ghost use Rattle.text_lines.specs.Stops.{refusal_at};
 
-use an_base::memory::OutOfMemory;
+use common_values::memory::OutOfMemory;
 
 /// Why a line adds nothing.
 #[derive(Clone, Copy, Debug, PartialEq, Eq)]

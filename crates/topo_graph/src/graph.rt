@@ -13,7 +13,7 @@ ghost use Rattle.std.specs.List.{list_any};
 use an_base::entry::{Entries, Entry};
 use an_base::life::{End, Life};
 use an_base::links::PortLink;
-use an_base::memory::OutOfMemory;
+use common_values::memory::OutOfMemory;
 use an_base::position::Position;
 use std::alloc::Global;
 use std::marker::Model;

@@ -9,7 +9,7 @@ ghost use Rattle.topo_report.specs.Inside.{TakesFirst};
 use an_base::entry::{Entries, Entry};
 use an_base::life::Life;
 use an_base::limits::MOST_SWITCHES;
-use an_base::memory::OutOfMemory;
+use common_values::memory::OutOfMemory;
 use std::alloc::Global;
 use std::cmp::Ordering;
 use std::marker::Model;

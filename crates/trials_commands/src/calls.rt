@@ -2,7 +2,7 @@
 
 ghost use Rattle.std.specs.Prelude.{◌≤◌};
 
-use an_base::text::Word;
+use common_values::text::Word;
 use commands::top::autonet;
 use outside::memory::{MemorySink, MemorySource};
 use std::alloc::Global;

@@ -6,7 +6,7 @@ ghost use Rattle.an_base.specs.declared.limits.TheConstants.{LAST_PORT, MOST_LEV
 use an_base::entry::{Entries, Entry};
 use an_base::life::{End, Life};
 use an_base::links::{Links, PortLink};
-use an_base::memory::OutOfMemory;
+use common_values::memory::OutOfMemory;
 use an_base::position::Position;
 use std::alloc::Global;
 use topo_graph::graph::Graph;

@@ -1,7 +1,7 @@
 //! Whole runs in threads (`switch_threads`).
 
 use an_base::event::Journal;
-use an_base::text::push_decimal;
+use common_values::text::push_decimal;
 use fabric_state::ending::Ending;
 use net_script::reader::read;
 use std::alloc::{AllocError, Global};

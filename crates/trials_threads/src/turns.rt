@@ -5,7 +5,7 @@ ghost use Rattle.fabric_turn.specs.Names.{turnstile_id};
 ghost use Rattle.fabric_turn.specs.Seats.{HasAllNumbers, HasOneNumber};
 ghost use Rattle.fabric_turn.specs.Calls.{DifferByCalls};
 
-use an_base::memory::OutOfMemory;
+use common_values::memory::OutOfMemory;
 use fabric_turn::{Seat, Staged, Turnstile};
 use std::alloc::Global;
 use std::process::Abort;

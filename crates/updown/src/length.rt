@@ -9,7 +9,7 @@ ghost use Rattle.updown.specs.Lengths.{lesser_of, Onward};
 
 use crate::order::{Descent, Height};
 use crate::route::is_up_end;
-use an_base::memory::OutOfMemory;
+use common_values::memory::OutOfMemory;
 use std::alloc::Global;
 use std::marker::Model;
 use topo_graph::graph::Graph;

@@ -4,8 +4,8 @@ ghost use Rattle.std.specs.Prelude.{length, IfOk};
 ghost use Rattle.topo_graph.specs.Topology.{IsGraph};
 ghost use Rattle.updown.specs.Order.{AreHeights, IsDescent};
 
-use an_base::items::Items;
-use an_base::memory::OutOfMemory;
+use common_values::items::Items;
+use common_values::memory::OutOfMemory;
 use std::alloc::Global;
 use topo_graph::graph::Graph;
 

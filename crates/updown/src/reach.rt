@@ -8,7 +8,7 @@ use crate::distance::Distances;
 use crate::length::Lengths;
 use crate::order::descent_of;
 use an_base::life::Life;
-use an_base::memory::OutOfMemory;
+use common_values::memory::OutOfMemory;
 use std::alloc::Global;
 use topo_graph::graph::Graph;
 

@@ -9,7 +9,7 @@ ghost use Rattle.wire_set.specs.Frames.{move_second};
 ghost use Rattle.wire_set.specs.Frames.{occupied, put_frame};
 
 use crate::queue::Queues;
-use an_base::memory::OutOfMemory;
+use common_values::memory::OutOfMemory;
 use frame_region::buffer::FrameBuf;
 use frame_region::region::{NoRoom, Region};
 use std::alloc::Global;

@@ -6,7 +6,7 @@ ghost use Rattle.std.specs.Prelude.{None, Some, IfOk, slice_index_or, vec_capaci
 ghost use Rattle.frame_region.specs.declared.region.TheConstants.{MOST_BLOCKS};
 ghost use Rattle.wire_set.specs.Queues.{QueuesOf, IsApart, IsNew, empty, queue_at, slot, with_queue};
 
-use an_base::memory::OutOfMemory;
+use common_values::memory::OutOfMemory;
 use frame_region::region::Slip;
 use std::alloc::Global;
 use std::marker::Model;

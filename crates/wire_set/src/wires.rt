@@ -19,7 +19,7 @@ ghost use Rattle.wire_set.specs.WireState.{wire_at, wire_out};
 
 use crate::frames::Frames;
 use crate::side::{Loss, Put, Side, Taken, is_link};
-use an_base::memory::OutOfMemory;
+use common_values::memory::OutOfMemory;
 use an_base::place::Place;
 use an_base::port::Port;
 use frame_region::buffer::FrameBuf;

@@ -1,6 +1,6 @@
 use Rattle.std.specs.Cmp.{nat_cmp_total}
 use Rattle.std.specs.Ordering.{nat_cmp}
-use Rattle.an_base.proofs.OrderLaws.{nat_apart}
+use Rattle.common_values.proofs.OrderingLemmas.{nat_apart}
 use Rattle.channel_graph.specs.Graph.{LeadsTo}
 use Rattle.channel_graph.proofs.OneAnswer.{no_both, one_cycle, one_list}
 use Rattle.channel_graph.proofs.law.one_answer.Goals as goal

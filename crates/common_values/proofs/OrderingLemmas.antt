@@ -1,8 +1,9 @@
 -- What the tests of a comparison's answer say.
-use Rattle.std.proofs.Common.{◌≡◌, refl, Less, Equal, Greater, true, false, IsTrue}
+use Rattle.std.proofs.Common.{◌≡◌, ℕ, refl, Less, Equal, Greater, true, false, IsTrue}
 use Rattle.std.specs.declared.cmp.Ordering.{Ordering}
-use Rattle.std.specs.Ordering.{is_eq, is_lt, is_le, is_gt, ordering_then, ordering_reverse}
+use Rattle.std.specs.Ordering.{nat_cmp, is_eq, is_lt, is_le, is_gt, ordering_then, ordering_reverse}
 use Rattle.std.specs.Cmp.{Equal-is}
+use Rattle.std.proofs.lemmas.Map.Lookups.{exact_unsigned}
 
 -- the test of equality
 pub equal_is : (o : Ordering) → is_eq o ≡ true → o ≡ Equal
@@ -39,3 +40,7 @@ pub then_equal : (a b : Ordering) → ordering_then a b ≡ Equal → (a ≡ Equ
 then_equal Less b e = absurd (cc)
 then_equal Equal b e = (refl, e)
 then_equal Greater b e = absurd (cc)
+
+-- numbers that compare as equal are one
+pub nat_apart : (a b : ℕ) → nat_cmp a b ≡ Equal → a ≡ b
+nat_apart = exact_unsigned

@@ -4,9 +4,9 @@ use Rattle.std.proofs.Math.Seq.{take-suc}
 use Rattle.std.specs.Prelude.{Any, flat_map}
 use Rattle.std.proofs.lemmas.List.Elements.{All-append, All-head, All-nil, All-tail, Contains-append_left, Contains-append_right}
 use Rattle.std.proofs.lemmas.Grind.{flat_map-append}
-use Rattle.an_base.proofs.ListLemmas.{AllPairs-head, AllPairs-tail, Any-front, Any-back, Any-cons_cases}
-use Rattle.an_base.proofs.MemberLemmas.{Contains-cons_cases}
-use Rattle.an_base.proofs.PairLemmas.{AllPairs-append}
+use Rattle.common_values.proofs.ListLemmas.{AllPairs-head, AllPairs-tail, Any-front, Any-back, Any-cons_cases}
+use Rattle.common_values.proofs.MemberLemmas.{Contains-cons_cases}
+use Rattle.common_values.proofs.PairLemmas.{AllPairs-append}
 
 -- what one of the pieces has
 pub Contains-flat_map : {X Y : Type 0} (f : X → List Y) (xs : List X) (x : X) (y : Y) → Contains xs x → Contains (f x) y → Contains (flat_map f xs) y

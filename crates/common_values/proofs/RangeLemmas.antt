@@ -1,13 +1,12 @@
 -- What a test keeps of a list, and of a range of numbers.
 use Rattle.std.proofs.Common.{◌≡◌, sym, subst, ℕ, zero, suc, ◌+◌, ◌-◌, ◌<◌, ◌≤◌, List, [], ◌∷◌, Bool, true, arith, inl, inr}
-use Rattle.std.specs.Prelude.{Contains, filter}
+use Rattle.std.specs.Prelude.{AllPairs, Contains, filter}
 use Rattle.std.specs.List.{range_with_len}
 use Rattle.std.proofs.lemmas.Bool.{cases_Bool}
 use Rattle.std.proofs.lemmas.List.Elements.{All-contains, All-contains_itself, All-filter, filter_passes}
 use Rattle.std.proofs.lemmas.List.FromFn.{get_or-range_with_len, length-range_with_len}
 use Rattle.std.proofs.lemmas.List.Kept.{AllPairs-filter}
-use Rattle.an_base.specs.Rows.{ExitsRise}
-use Rattle.an_base.proofs.MemberLemmas.{Contains-later, one_rising}
+use Rattle.common_values.proofs.MemberLemmas.{Contains-later, one_rising}
 
 -- what passes a test is kept
 pub Contains-kept : {X : Type 0} (p : X → Bool) (xs : List X) (x : X) → Contains xs x → p x ≡ true → Contains (filter p xs) x
@@ -41,7 +40,7 @@ in_range n a x least most =
     (x - a, omega (arith, length-range_with_len a n), omega (arith, at))
 
 -- a range rises
-pub range_rising : (n a : ℕ) → ExitsRise (range_with_len a n)
+pub range_rising : (n a : ℕ) → AllPairs (λ before after. before < after) (range_with_len a n)
 range_rising n a i j d less low =
     let size = length-range_with_len a n in
     let first = get_or-range_with_len a n i d (omega arith) in
@@ -49,11 +48,11 @@ range_rising n a i j d less low =
     omega arith
 
 -- and so does what a test keeps of it
-pub range_rises : (p : ℕ → Bool) (n a : ℕ) → ExitsRise (filter p (range_with_len a n))
+pub range_rises : (p : ℕ → Bool) (n a : ℕ) → AllPairs (λ before after. before < after) (filter p (range_with_len a n))
 range_rises p n a = AllPairs-filter (λ before after. before < after) p (range_with_len a n) (range_rising n a)
 
 -- that is the rising list of the numbers of the range that pass
-pub kept_range : (p : ℕ → Bool) (n a : ℕ) (xs : List ℕ) → ExitsRise xs → ((x : ℕ) → Contains xs x → (a ≤ x) × (x < a + n) × (p x ≡ true)) → ((x : ℕ) → a ≤ x → x < a + n → p x ≡ true → Contains xs x) → filter p (range_with_len a n) ≡ xs
+pub kept_range : (p : ℕ → Bool) (n a : ℕ) (xs : List ℕ) → AllPairs (λ before after. before < after) xs → ((x : ℕ) → Contains xs x → (a ≤ x) × (x < a + n) × (p x ≡ true)) → ((x : ℕ) → a ≤ x → x < a + n → p x ≡ true → Contains xs x) → filter p (range_with_len a n) ≡ xs
 kept_range p n a xs rise has only = one_rising (λ before after. before < after) (filter p (range_with_len a n)) xs (λ x y first second less more. omega arith) (range_rises p n a) rise
     (λ x here. let inside = within_range n a x (kept_member p (range_with_len a n) x here) in only x inside.0 inside.1 (kept_passes p (range_with_len a n) x here))
     (λ x there. let h = has x there in Contains-kept p (range_with_len a n) x (in_range n a x h.0 h.1) h.2)

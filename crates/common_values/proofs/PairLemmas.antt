@@ -3,8 +3,8 @@ use Rattle.std.proofs.Common.{◌≢◌, ◌∙◌, sym, subst, List, [], ◌∷
 use Rattle.std.proofs.lemmas.List.Elements.{All-head, All-tail, All-append, All-map, All-contains, Contains-append_left, Contains-append_right, Contains-append_cases, Contains-get_or}
 use Rattle.std.proofs.lemmas.List.Kept.{AllPairs-cons}
 use Rattle.std.proofs.lemmas.List.Quantifiers.{all_pairs_push}
-use Rattle.an_base.proofs.ListLemmas.{AllPairs-head, AllPairs-tail, All-from_members}
-use Rattle.an_base.proofs.MemberLemmas.{Contains-here, Contains-later, Contains-cons_cases}
+use Rattle.common_values.proofs.ListLemmas.{AllPairs-head, AllPairs-tail, All-from_members}
+use Rattle.common_values.proofs.MemberLemmas.{Contains-here, Contains-later, Contains-cons_cases}
 
 -- the first part of a list
 pub AllPairs-front : {X : Type 0} (R : X → X → Type 0) (xs ys : List X) → AllPairs R (xs ++ ys) → AllPairs R xs

@@ -3,7 +3,7 @@ use Rattle.std.proofs.Common.{◌≡◌, ◌∙◌, sym, ap, subst, refl, List, 
 use Rattle.std.specs.Prelude.{Any}
 use Rattle.std.proofs.lemmas.List.{length-map, get_or-map}
 use Rattle.std.proofs.lemmas.List.Elements.{All-contains, Contains-append_right, Contains-append_cases, Contains-push_cases}
-use Rattle.an_base.proofs.ListLemmas.{AllPairs-head, AllPairs-tail, Any-later, Any-cons_cases}
+use Rattle.common_values.proofs.ListLemmas.{AllPairs-head, AllPairs-tail, Any-later, Any-cons_cases}
 
 -- the first element is a member
 pub Contains-here : {X : Type 0} (x : X) (xs : List X) → Contains (x ∷ xs) x
