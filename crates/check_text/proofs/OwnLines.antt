@@ -30,7 +30,8 @@ use Rattle.text_lines.specs.Faults.{unless}
 use Rattle.net_script.specs.Scripts.{ScriptOf, IsScript}
 use Rattle.row_text.specs.TableForms.{TableForm}
 use Rattle.net_script.specs.declared.cause.ScriptCause.TheVariants.{BadNumber, PortRange}
-use Rattle.text_lines.proofs.SpellLemmas.{IsPrinted, IsWord, decimal_word, decimal_value, decimal_number, name_word}
+use Rattle.text_lines.proofs.SpellLemmas.{IsPrinted, IsWord, decimal_word, decimal_value, decimal_number}
+use Rattle.net_names.proofs.WordLemmas.{name_word}
 use Rattle.text_lines.proofs.WordLemmas.{own}
 use Rattle.text_lines.proofs.SpellLemmas.{fixed_word, words_cons, words_nil}
 use Rattle.text_lines.proofs.FaultLemmas.{unless_good, first_good}

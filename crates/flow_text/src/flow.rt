@@ -34,7 +34,7 @@ use net_script::script::Script;
 use row_text::piece::{push_bytes, push_name};
 use std::alloc::Global;
 use switch_numbering::numbering::number;
-use text_lines::names::Names;
+use net_names::names::Names;
 use text_lines::spelling::push_line;
 use topo_graph::graph::Graph;
 

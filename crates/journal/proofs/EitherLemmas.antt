@@ -16,13 +16,13 @@ use Rattle.net_script.specs.declared.command.WireChange.{WireChange}
 use Rattle.net_script.specs.declared.command.WireChange.TheVariants as wire
 use Rattle.net_script.specs.Commands.{IsPort, wire_event, most_count, wire_word}
 use Rattle.text_lines.specs.Lines.{line_text}
-use Rattle.text_lines.specs.Names.{place_of}
+use Rattle.net_names.specs.Names.{place_of}
 use Rattle.net_script.specs.Scripts.{ScriptOf, IsScript}
 use Rattle.text_lines.specs.Words.{is_number, is_number_in, number_value}
 use Rattle.text_lines.proofs.ChoiceLemmas.{branch, mapped, word_is}
 use Rattle.net_script.proofs.FormOf.{wire_of, wire_is}
 use Rattle.common_values.proofs.ListLemmas.{some_is}
-use Rattle.text_lines.proofs.NameLemmas.{place_found}
+use Rattle.net_names.proofs.NameLemmas.{place_found}
 use Rattle.journal_cause.specs.declared.cause.JournalCause.{JournalCause}
 use Rattle.journal_cause.specs.declared.cause.JournalCause.TheVariants.{BadHeader, UnknownWord, BadNumber, NoSuchName, NoEnd}
 use Rattle.journal.specs.declared.kind.SwitchEvent.{SwitchEvent}

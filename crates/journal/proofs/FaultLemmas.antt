@@ -8,7 +8,7 @@ use Rattle.std.proofs.lemmas.List.Elements.{All-head, All-tail}
 use Rattle.an_base.specs.declared.event.Event.{Event}
 use Rattle.an_base.specs.declared.event.Event.TheVariants.{Tick, Clock, Take, Handle, Load, Fail, Repair, Lose, Again, Swap, Noise, Send, Move, Restart}
 use Rattle.text_lines.specs.Lines.{line_text}
-use Rattle.text_lines.specs.Names.{place_of}
+use Rattle.net_names.specs.Names.{place_of}
 use Rattle.net_script.specs.Commands.{IsPort}
 use Rattle.net_script.specs.Scripts.{ScriptOf, IsScript}
 use Rattle.text_lines.proofs.SpellLemmas.{IsLineByte, IsWord, decimal_good, line_bytes, line_short, nonempty, test_from_all}

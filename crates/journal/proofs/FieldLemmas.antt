@@ -12,7 +12,7 @@ use Rattle.std.proofs.lemmas.List.{get_or_default}
 use Rattle.std.proofs.lemmas.List.Quantifiers.{position-Some}
 use Rattle.std.proofs.lemmas.Slice.Eq.{bytes_eq-Decides}
 use Rattle.text_lines.specs.Words.{is_number, is_number_in, number_value}
-use Rattle.text_lines.specs.Names.{place_of}
+use Rattle.net_names.specs.Names.{place_of}
 use Rattle.text_lines.proofs.WordLemmas.{own}
 use Rattle.journal_cause.specs.declared.cause.JournalCause.TheVariants.{BadNumber, NoSuchName}
 use Rattle.text_lines.specs.Faults.{unless}

@@ -1,7 +1,7 @@
 use Rattle.std.specs.Prelude.{◌^◌, ◌-◌, ℕ, List, Option, None, is_some}
 use Rattle.std.specs.Option.{option_or}
 use Rattle.text_lines.specs.Words.{is_number_in}
-use Rattle.text_lines.specs.Names.{place_of}
+use Rattle.net_names.specs.Names.{place_of}
 use Rattle.net_script.specs.Commands.{most_count}
 use Rattle.net_script.specs.Scripts.{ScriptOf}
 use Rattle.journal_cause.specs.declared.cause.JournalCause.{JournalCause}

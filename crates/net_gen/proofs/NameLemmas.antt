@@ -9,7 +9,7 @@ use Rattle.std.proofs.lemmas.Bool.Decides.{nat_tests}
 use Rattle.std.proofs.lemmas.Fmt.{decimal_injective, digits_decimal, length-decimal-le}
 use Rattle.std.proofs.lemmas.List.FromFn.{length-range_with_len, get_or-range_with_len}
 use Rattle.common_values.proofs.MemberLemmas.{Any-from_map}
-use Rattle.text_lines.specs.Words.{is_name_byte, IsName}
+use Rattle.net_names.specs.Words.{is_name_byte, IsName}
 use Rattle.text_lines.proofs.WordLemmas.{own}
 
 -- a digit is a byte of a name

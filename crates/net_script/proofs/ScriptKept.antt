@@ -20,7 +20,8 @@ use Rattle.net_script.specs.declared.draft.Part.TheVariants.{Header, Items, Afte
 use Rattle.net_script.specs.declared.setting.Limits.{Limits}
 use Rattle.net_script.specs.declared.setting.Setting.{Setting}
 use Rattle.net_script.specs.declared.setting.Setting.TheVariants.{Ticks, Events, Blocks, Epoch, Pace}
-use Rattle.text_lines.specs.Words.{is_name, is_number, number_value, is_uid, uid_value}
+use Rattle.text_lines.specs.Words.{is_number, number_value}
+use Rattle.net_names.specs.Words.{is_name, is_uid, uid_value}
 use Rattle.text_lines.specs.Lines.{lines_of, words_of}
 use Rattle.text_lines.specs.Faults.{unless}
 use Rattle.net_script.specs.Settings.{least_of, most_of, has_come}

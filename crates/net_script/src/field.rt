@@ -5,7 +5,8 @@ ghost use Rattle.std.specs.Option.{option_map};
 ghost use Rattle.an_base.specs.declared.limits.TheConstants.{LAST_PORT, MOST_NUMBER, MOST_SWITCHES};
 ghost use Rattle.net_graph.specs.Wires.{uids, used_ports, a_end, b_end};
 ghost use Rattle.net_script.specs.declared.cause.ScriptCause.TheVariants.{BadName, NoSuchName, PortUsed, NoLink};
-ghost use Rattle.text_lines.specs.Words.{is_name, number_value, uid_value};
+ghost use Rattle.text_lines.specs.Words.{number_value};
+ghost use Rattle.net_names.specs.Words.{is_name, uid_value};
 ghost use Rattle.text_lines.specs.Faults.{first_of, unless};
 ghost use Rattle.net_script.specs.Commands.{is_used, is_linked, last_time};
 ghost use Rattle.net_script.specs.Scripts.{IsNewName, lives_of};
@@ -18,7 +19,8 @@ use an_base::limits::MOST_SWITCHES;
 use an_base::place::Place;
 use an_base::port::Port;
 use net_graph::wiring::{Far, LinkAt, Wiring};
-use text_lines::word::{is_name, is_number, number_between, number_of, uid_of};
+use net_names::word::{is_name, uid_of};
+use text_lines::word::{is_number, number_between, number_of};
 
 // The most commands.
 const MOST_COMMANDS: usize = 10_000;

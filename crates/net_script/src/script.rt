@@ -4,7 +4,7 @@ ghost use Rattle.std.specs.Prelude.{◌≡◌, ◌<◌, ◌≤◌, true, length,
 ghost use Rattle.an_base.specs.declared.limits.TheConstants.{MOST_SWITCHES};
 ghost use Rattle.net_script.specs.Settings.{least_of, most_of};
 ghost use Rattle.net_script.specs.Scripts.{IsScript, CanAddSwitch, CanAddLink, CanAddHost, CanAddCommand, empty_script, restarts_of, lives_of, with_switch, with_link, with_host, with_command, with_setting};
-ghost use Rattle.text_lines.specs.Names.{place_of};
+ghost use Rattle.net_names.specs.Names.{place_of};
 
 use crate::command::{Command, is_restart};
 use crate::setting::{DEFAULT_BLOCKS, DEFAULT_EVENTS, DEFAULT_TICKS, Limits, Setting};
@@ -15,7 +15,7 @@ use common_values::text::Word;
 use net_graph::wiring::{HostOn, LinkAt, SwitchAt, Wiring};
 use std::alloc::Global;
 use std::marker::Model;
-use text_lines::names::Names;
+use net_names::names::Names;
 
 /// A script: switches and hosts with their names, the links between their ports, commands in the
 /// order of their times, and settings.

@@ -23,7 +23,7 @@ use net_graph::wiring::HostOn;
 use net_script::script::Script;
 use replay::refusal::ReplayRefusal;
 use std::alloc::Global;
-use text_lines::names::Names;
+use net_names::names::Names;
 use text_lines::spelling::{decimal, push_line};
 
 // A packet that was sent: the place of the host that sent it, and the address from which it comes, once it has

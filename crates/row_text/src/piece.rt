@@ -9,7 +9,7 @@ use common_values::text::push_decimal;
 use net_graph::wiring::SwitchAt;
 use net_script::script::Script;
 use std::alloc::{AllocError, Global};
-use text_lines::names::Names;
+use net_names::names::Names;
 
 /// The place of the switch with this identifier.
 pub fn place_of(switches: &[SwitchAt], uid: u64) -> Option<usize>

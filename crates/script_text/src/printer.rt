@@ -17,8 +17,9 @@ use net_script::command::Command;
 use net_script::script::Script;
 use net_script::setting::{DEFAULT_BLOCKS, DEFAULT_EVENTS, DEFAULT_TICKS, Setting};
 use std::alloc::Global;
-use text_lines::names::Names;
-use text_lines::spelling::{identifier, push_line};
+use net_names::names::Names;
+use net_names::spelling::identifier;
+use text_lines::spelling::push_line;
 
 /// The canonical text of a script: the first line; the settings that differ from their defaults, in
 /// the order `limit ticks`, `limit events`, `limit blocks`, `epoch`, `pace`, `routes any`; the

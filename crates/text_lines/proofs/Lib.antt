@@ -4,7 +4,6 @@ pub mod LineLemmas
 pub mod LineTextLemmas
 pub mod WordLemmas
 pub mod SpellLemmas
-pub mod NameLemmas
 pub mod ChainLaws
 pub mod GrammarLaws
 pub mod StopLemmas

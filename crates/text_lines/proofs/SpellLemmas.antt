@@ -30,30 +30,14 @@ pub record IsWord (word : List ℕ) : Type 0 where
   pub some : 0 < length word
   pub most : length word ≤ 30
 
--- a byte that passes the test of names is printed
-name_byte : (c : ℕ) → is_name_byte c ≡ true → IsPrinted c
-name_byte c t = (grind (arith, nat_tests), grind (arith, nat_tests))
-
 -- what passes a test along a list
-all_from_test : (p : ℕ → Bool) (P : ℕ → Type 0) → ((c : ℕ) → p c ≡ true → P c) → (xs : List ℕ) → list_all p xs ≡ true → All P xs
+pub all_from_test : (p : ℕ → Bool) (P : ℕ → Type 0) → ((c : ℕ) → p c ≡ true → P c) → (xs : List ℕ) → list_all p xs ≡ true → All P xs
 all_from_test p P each [] t = All-nil P
 all_from_test p P each (x ∷ xs) t = let parts = and_parts (p x) (list_all p xs) t in All-cons P x xs (each x parts.0) (all_from_test p P each xs parts.1)
 
 pub test_from_all : (p : ℕ → Bool) (P : ℕ → Type 0) → ((c : ℕ) → P c → p c ≡ true) → (xs : List ℕ) → All P xs → list_all p xs ≡ true
 test_from_all p P each [] all = refl
 test_from_all p P each (x ∷ xs) all = rw (each x (All-head P x xs all), test_from_all p P each xs (All-tail P x xs all)) refl
-
--- what a name's test says
-pub name_parts : (w : List ℕ) → IsName w → (0 < length w) × (length w ≤ 16) × (list_all is_name_byte w ≡ true)
-name_parts [] is = absurd (cc)
-name_parts (c ∷ w) is =
-    let first = and_parts _ _ is in
-    let rest = and_parts _ _ first.1 in
-    (omega arith, grind (arith, nat_tests), rest.1)
-
--- names are printed words
-pub name_word : (w : List ℕ) → IsName w → IsWord w
-name_word w is = let p = name_parts w is in record { bytes = all_from_test is_name_byte IsPrinted name_byte w p.2; some = p.0; most = omega arith }
 
 -- a digit is printed
 digit_byte : (c : ℕ) → is_ascii_digit c ≡ true → IsPrinted c
@@ -151,16 +135,6 @@ hex_more text front all zero n glyph some so_far last is = absurd (omega arith)
 hex_more text front all (suc k) n glyph some so_far last is =
     let one : suc k - 1 ≡ k = omega arith in
     last ∙ ap (λ (f : List ℕ). f ++ glyph ∷ []) (so_far ∙ ap (λ (j : ℕ). text ++ hex_text j (n / 16)) one) ∙ append_assoc text (hex_text k (n / 16)) (glyph ∷ []) ∙ ap (λ (g : ℕ). text ++ (hex_text k (n / 16) ++ g ∷ [])) is
-
-pub uid_word : (n : ℕ) → IsWord (hex_text 12 n)
-uid_word n = record { bytes = hex_printed 12 n; some = omega (arith, length-hex_text 12 n); most = omega (arith, length-hex_text 12 n) }
-
-pub uid_is : (n : ℕ) → is_uid (hex_text 12 n) ≡ true
-uid_is n = rw (length-hex_text 12 n, hex_digits 12 n) refl
-
-pub uid_value_is : (n : ℕ) → n < 2 ^ 48 → uid_value (hex_text 12 n) ≡ n
-unfolding uid_value
-uid_value_is n low = hex_says 12 n (omega arith)
 
 -- lines
 

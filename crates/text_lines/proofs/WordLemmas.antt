@@ -6,7 +6,6 @@ use Rattle.std.proofs.lemmas.List.Folds.{list_all_more}
 use Rattle.std.proofs.lemmas.Bool.Decides.{nat_tests}
 use Rattle.std.proofs.lemmas.Int.Digits.{digits_value_more}
 use Rattle.std.proofs.lemmas.Str.Parse.{IsNumeralModel, numerals_by_value, digit_at, digits_value-take-le}
-use Rattle.std.proofs.Math.Nat.{pow-le-pow_right}
 use Rattle.text_lines.specs.Words.{number_value}
 
 -- digits, and what they say
@@ -31,13 +30,13 @@ number_more w i all within =
 pub number_front : (w : List ℕ) (i : ℕ) → digits_value 10 (take i w) ≤ digits_value 10 w
 number_front w i = digits_value-take-le 10 w i (omega arith)
 
--- the digits of identifiers, with one more
-pub uid_more : (w : List ℕ) (i : ℕ) → i < length w → digits_value 16 (take (i + 1) w) ≡ digits_value 16 (take i w) * 16 + digit_value (get_or w i 0)
-uid_more w i within = digits_value_more 16 w i within
+-- the value of hexadecimal digits, with one more
+pub hex_value_more : (w : List ℕ) (i : ℕ) → i < length w → digits_value 16 (take (i + 1) w) ≡ digits_value 16 (take i w) * 16 + digit_value (get_or w i 0)
+hex_value_more w i within = digits_value_more 16 w i within
 
--- n keeps below 2 ^ 48
-pub uid_next : (n d i : ℕ) → n < 16 ^ i → d < 16 → n * 16 + d < 16 ^ (i + 1)
-uid_next n d i below low = let p : 16 ^ (i + 1) ≡ 16 ^ i * 16 = rw (add-one, pow-suc) refl in omega arith
+-- the value of i + 1 digits is below 16 ^ (i + 1)
+pub hex_value_fits : (n d i : ℕ) → n < 16 ^ i → d < 16 → n * 16 + d < 16 ^ (i + 1)
+hex_value_fits n d i below low = let p : 16 ^ (i + 1) ≡ 16 ^ i * 16 = rw (add-one, pow-suc) refl in omega arith
 
 -- a number past 64 bits
 pub number_over : (w : List ℕ) (i n : ℕ) → list_all is_ascii_digit w ≡ true → i < length w → n ≡ digits_value 10 (take i w) → 2 ^ 64 ≤ n * 10 + (get_or w i 0 - 48) → 2 ^ 64 ≤ number_value w
@@ -51,13 +50,9 @@ number_over w i n all within so_far high =
 pub number_step : (w : List ℕ) (i n m : ℕ) → list_all is_ascii_digit w ≡ true → i < length w → n ≡ digits_value 10 (take i w) → m ≡ n * 10 + (get_or w i 0 - 48) → m ≡ digits_value 10 (take (i + 1) w)
 number_step w i n m all within so_far next = let more = number_more w i all within in omega arith
 
--- the digits of an identifier, with one more
-pub uid_digits : (w : List ℕ) (i : ℕ) → i < length w → list_all (λ c. is_digit c 16) (take i w) ≡ true → is_digit (get_or w i 0) 16 ≡ true → list_all (λ c. is_digit c 16) (take (i + 1) w) ≡ true
-uid_digits w i within so_far here = list_all_more (λ c. is_digit c 16) w i 0 within ∙ rw (so_far, here) refl
+-- hexadecimal digits, with one more
+pub hex_digits_more : (w : List ℕ) (i : ℕ) → i < length w → list_all (λ c. is_digit c 16) (take i w) ≡ true → is_digit (get_or w i 0) 16 ≡ true → list_all (λ c. is_digit c 16) (take (i + 1) w) ≡ true
+hex_digits_more w i within so_far here = list_all_more (λ c. is_digit c 16) w i 0 within ∙ rw (so_far, here) refl
 
-pub uid_says : (w : List ℕ) (i n d : ℕ) → i < length w → n ≡ digits_value 16 (take i w) → d ≡ digit_value (get_or w i 0) → n * 16 + d ≡ digits_value 16 (take (i + 1) w)
-uid_says w i n d within so_far here = let more = uid_more w i within in omega arith
-
--- an identifier keeps below 2 ^ 48
-pub uid_fits : (i n : ℕ) → i ≤ 12 → n < 16 ^ i → n < 2 ^ 48
-uid_fits i n few below = let p : 16 ^ i ≤ 16 ^ 12 = pow-le-pow_right {n = 16} (lit< tt) few in omega arith
+pub hex_value_next : (w : List ℕ) (i n d : ℕ) → i < length w → n ≡ digits_value 16 (take i w) → d ≡ digit_value (get_or w i 0) → n * 16 + d ≡ digits_value 16 (take (i + 1) w)
+hex_value_next w i n d within so_far here = let more = hex_value_more w i within in omega arith

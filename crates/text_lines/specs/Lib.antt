@@ -1,6 +1,5 @@
 pub mod Words
 pub mod Lines
-pub mod Names
 pub mod Faults
 pub mod Chains
 pub mod Grammar

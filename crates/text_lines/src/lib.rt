@@ -8,7 +8,6 @@
 #![tactic(auto)]
 
 pub mod line;
-pub mod names;
 pub mod spelling;
 pub mod stop;
 pub mod word;

@@ -1,4 +1,4 @@
-//! The spelling of lines, numbers and identifiers.
+//! The spelling of lines and numbers.
 
 ghost use Rattle.std.specs.Prelude.{if◌then◌else◌, nat_lt, ◌≡◌, ◌<◌, ◌++◌, [], ◌∷◌, map, OnOk, IfOk};
 ghost use Rattle.std.specs.Fmt.{decimal};
@@ -39,15 +39,6 @@ pub fn decimal(alloc: Global, number: u64) -> Result<Vec<u8>, OutOfMemory>
 {
     let mut text = Vec::new(alloc);
     push_decimal(alloc, &mut text, number)?;
-    Ok(text)
-}
-
-/// An identifier in twelve hexadecimal digits, the last twelve if it has more.
-pub fn identifier(alloc: Global, uid: u64) -> Result<Vec<u8>, OutOfMemory>
-    ensures { IfOk result (λ text. text.items ≡ hex_text 12 uid) }
-{
-    let mut text = Vec::new(alloc);
-    push_hex(&mut text, 12, uid)?;
     Ok(text)
 }
 

@@ -1,5 +1,5 @@
 use Rattle.std.proofs.Common.{arith, ◌∙◌}
-use Rattle.text_lines.proofs.WordLemmas.{uid_digits, uid_says, uid_next}
+use Rattle.text_lines.proofs.WordLemmas.{hex_digits_more, hex_value_next, hex_value_fits}
 use Rattle.ib_words.proofs.DigitLemmas.{digits_fit}
 use Rattle.ib_words.proofs.digits.hex_number.Goals as goal
 
@@ -11,7 +11,7 @@ overflow_add-number c = omega (arith, digits_fit c.digits.c-index c.digits.numbe
 
 pub digits-preserved : goal.digits-preserved
 digits-preserved c = record {
-  digits = uid_digits c.args.word.now c.digits.c-index (omega arith) c.digits.invariant.digits c.in_ok-hex_digit.ensures.digit.0;
-  says = uid_says c.args.word.now c.digits.c-index c.digits.number c.from.result (omega arith) c.digits.invariant.says (c.from.ensures ∙ c.in_ok-hex_digit.ensures.digit.1);
-  below = uid_next c.digits.number c.from.result c.digits.c-index c.digits.invariant.below (omega (arith, c.from.ensures, c.in_ok-hex_digit.ensures.low));
+  digits = hex_digits_more c.args.word.now c.digits.c-index (omega arith) c.digits.invariant.digits c.in_ok-hex_digit.ensures.digit.0;
+  says = hex_value_next c.args.word.now c.digits.c-index c.digits.number c.from.result (omega arith) c.digits.invariant.says (c.from.ensures ∙ c.in_ok-hex_digit.ensures.digit.1);
+  below = hex_value_fits c.digits.number c.from.result c.digits.c-index c.digits.invariant.below (omega (arith, c.from.ensures, c.in_ok-hex_digit.ensures.low));
 }

@@ -1,7 +1,7 @@
 //! Names, by place.
 
 ghost use Rattle.std.specs.Prelude.{◌≡◌, ◌==◌, ◌-◌, ◌<◌, [], ◌∷◌, ◌++◌, length, take, Contains, IfSome, OnOk, OnErr, slice_index_or};
-ghost use Rattle.text_lines.specs.Names.{place_of};
+ghost use Rattle.net_names.specs.Names.{place_of};
 
 use common_values::memory::OutOfMemory;
 use common_values::text::Word;

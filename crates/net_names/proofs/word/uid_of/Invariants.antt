@@ -2,7 +2,7 @@ use Rattle.std.proofs.Common.{◌≡◌, ◌<◌, ◌^◌, take, true}
 use Rattle.std.specs.List.{list_all}
 use Rattle.std.specs.Char.{is_digit}
 use Rattle.std.specs.Str.Parse.{digits_value}
-use Rattle.text_lines.proofs.word.uid_of.Given as goal
+use Rattle.net_names.proofs.word.uid_of.Given as goal
 
 -- the bytes so far are digits, and the identifier is what they say
 abbrev pub invariant-digits : goal.invariant-digits
