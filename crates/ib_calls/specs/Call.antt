@@ -2,7 +2,7 @@
 
 use Rattle.std.specs.Prelude.{◌≡◌, ℕ, List, Some, slice_get, slice_index}
 use Rattle.outside.specs.Told.{Seen}
-use Rattle.ib_routes.specs.declared.traffic.Traffic.{Traffic}
+use Rattle.ib_net.specs.declared.traffic.Traffic.{Traffic}
 use Rattle.ib_answering.specs.Answer.{Gives, IsAnswer, IsUsageAnswer, Streams}
 use Rattle.ib_lane_lines.specs.declared.answer.Asked.{Asked}
 use Rattle.ib_lane_commands.specs.Asked.{IsAskedBy}

@@ -19,7 +19,7 @@ use Rattle.ib_net.specs.declared.node.Side.TheVariants.{Bare, To, End}
 use Rattle.ib_net.specs.declared.node.Switch.{Switch}
 use Rattle.ib_net.specs.Fabric.{FabricOf, IsFabric, guid_in, guid_of, side_of, switch_count, switch_with}
 use Rattle.ib_cells.specs.Cells.{TablesOf}
-use Rattle.ib_routes.specs.declared.traffic.Traffic.{Traffic}
+use Rattle.ib_net.specs.declared.traffic.Traffic.{Traffic}
 use Rattle.ib_routes.specs.Found.{IsChannel, channel_of, number}
 use Rattle.ib_routes.specs.Routes.{Channel}
 use Rattle.ib_routes.proofs.ChannelLemmas.{channel_place}

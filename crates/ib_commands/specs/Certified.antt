@@ -8,7 +8,7 @@ use Rattle.ib_net.specs.declared.node.EndPort.TheVariants.{Switch}
 use Rattle.ib_net.specs.declared.node.Spot.{Spot}
 use Rattle.ib_net.specs.Fabric.{FabricOf, guid_of, switch_count}
 use Rattle.ib_cells.specs.Cells.{TablesOf, tables_of}
-use Rattle.ib_routes.specs.declared.traffic.Traffic.{Traffic}
+use Rattle.ib_net.specs.declared.traffic.Traffic.{Traffic}
 use Rattle.ib_routes.specs.Found.{SomeIsStopped, channel_of}
 use Rattle.ib_routes.specs.Routes.{DependsOn}
 use Rattle.ib_tables.specs.declared.reader.Tables.{Tables}

@@ -8,7 +8,7 @@ use Rattle.ib_net.specs.declared.node.Side.{Side}
 use Rattle.ib_net.specs.declared.node.Side.TheVariants.{Bare, To, End}
 use Rattle.ib_net.specs.Fabric.{FabricOf, guid_of, side_of}
 use Rattle.ib_cells.specs.Cells.{tables_of}
-use Rattle.ib_routes.specs.declared.traffic.Traffic.{Traffic}
+use Rattle.ib_net.specs.declared.traffic.Traffic.{Traffic}
 use Rattle.ib_tables.specs.declared.reader.Tables.{Tables}
 use Rattle.ib_verdict.specs.declared.verdict.LoopChannel.{LoopChannel}
 use Rattle.ib_lines.specs.declared.picture.Arrow.{Arrow}

@@ -1,7 +1,7 @@
 -- What each command gives for the text of a topology, its fabric and tables.
 
 use Rattle.std.specs.Prelude.{ℕ, List}
-use Rattle.ib_routes.specs.declared.traffic.Traffic.{Traffic}
+use Rattle.ib_net.specs.declared.traffic.Traffic.{Traffic}
 use Rattle.ib_answering.specs.Answer.{Gives}
 use Rattle.ib_commands.specs.Certified.{AreRanksTold, AreRanksVerified}
 use Rattle.ib_commands.specs.Drawn.{IsDrawn}

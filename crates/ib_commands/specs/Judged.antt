@@ -11,8 +11,8 @@ use Rattle.ib_counts.specs.declared.counts.Loss.{Loss}
 use Rattle.ib_counts.specs.declared.counts.Losses.{Losses}
 use Rattle.ib_counts.specs.declared.counts.LostRoute.{LostRoute}
 use Rattle.ib_counts.specs.Counts.{AreCounts, sum_of}
-use Rattle.ib_routes.specs.declared.traffic.Traffic.{Traffic}
-use Rattle.ib_routes.specs.declared.traffic.Traffic.TheVariants.{Hosts, Lids, Managed, All, Rows}
+use Rattle.ib_net.specs.declared.traffic.Traffic.{Traffic}
+use Rattle.ib_net.specs.declared.traffic.Traffic.TheVariants.{Hosts, Lids, Managed, All, Rows}
 use Rattle.ib_routes.specs.Found.{SomeIsStopped}
 use Rattle.ib_routes.specs.Routes.{Channel, DependsOn}
 use Rattle.ib_tables.specs.declared.reader.Tables.{Tables}

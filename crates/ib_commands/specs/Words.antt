@@ -1,8 +1,8 @@
 -- The words of traffics.
 
 use Rattle.std.specs.Prelude.{ℕ, List, codes}
-use Rattle.ib_routes.specs.declared.traffic.Traffic.{Traffic}
-use Rattle.ib_routes.specs.declared.traffic.Traffic.TheVariants.{Hosts, Lids, Managed, All, Rows}
+use Rattle.ib_net.specs.declared.traffic.Traffic.{Traffic}
+use Rattle.ib_net.specs.declared.traffic.Traffic.TheVariants.{Hosts, Lids, Managed, All, Rows}
 
 -- the word of a traffic
 abbrev pub traffic_word : Traffic → List ℕ

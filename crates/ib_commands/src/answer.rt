@@ -3,7 +3,7 @@
 ghost use Rattle.std.specs.Prelude.{◌≡◌, IfOk};
 ghost use Rattle.ib_cells.specs.Cells.{TablesOf, tables_of};
 ghost use Rattle.ib_net.specs.Fabric.{FabricOf};
-ghost use Rattle.ib_routes.specs.declared.traffic.Traffic.{Traffic};
+ghost use Rattle.ib_net.specs.declared.traffic.Traffic.{Traffic};
 ghost use Rattle.ib_tables.specs.Reads.{HasCells};
 ghost use Rattle.ib_verdict.specs.Count.{IsChannelCount, IsLinkCount};
 ghost use Rattle.ib_verdict.specs.Judgements.{IsJudgement};
@@ -20,7 +20,7 @@ use ib_counts::count::count_routes;
 use ib_counts::counts::Counts;
 use ib_lines::answer::{Answer, Read, Routes};
 use ib_net::fabric::Fabric;
-use ib_routes::traffic::Traffic;
+use ib_net::traffic::Traffic;
 use ib_tables::reader::Tables;
 use ib_verdict::judge::Judgement;
 use ib_verdict::links::count_links;

@@ -15,7 +15,7 @@ use ib_answering::command::{Command, Given};
 use ib_answering::input::Topology;
 use ib_lines::printer::print;
 use ib_lines::ranks::print_ranks;
-use ib_routes::traffic::Traffic;
+use ib_net::traffic::Traffic;
 use ib_tables::reader::Tables;
 use ib_verdict::judge::{Judgement, judge};
 use ib_verdict::verdict::Verdict;

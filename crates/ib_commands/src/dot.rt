@@ -16,7 +16,7 @@ use ib_answering::input::Topology;
 use ib_lines::picture::{Arrow, Picture, print_picture};
 use ib_net::fabric::Fabric;
 use ib_net::node::{EndPort, Side, Spot};
-use ib_routes::traffic::Traffic;
+use ib_net::traffic::Traffic;
 use ib_tables::reader::Tables;
 use ib_verdict::judge::judge;
 use ib_verdict::verdict::LoopChannel;

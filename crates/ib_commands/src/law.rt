@@ -3,7 +3,7 @@
 ghost use Rattle.std.specs.Prelude.{◌≡◌, ℕ, List, None};
 ghost use Rattle.ib_cells.specs.Cells.{tables_of};
 ghost use Rattle.ib_net.specs.Fabric.{FabricOf};
-ghost use Rattle.ib_routes.specs.declared.traffic.Traffic.{Traffic};
+ghost use Rattle.ib_net.specs.declared.traffic.Traffic.{Traffic};
 ghost use Rattle.ib_tables.specs.declared.reader.Tables.{Tables};
 ghost use Rattle.ib_lines.specs.Ranks.{verified_text};
 ghost use Rattle.ib_answering.specs.declared.status.Status.{Status};

@@ -3,7 +3,7 @@
 ghost use Rattle.std.specs.Prelude.{◌≡◌};
 ghost use Rattle.ib_commands.specs.Words.{traffic_word};
 
-use ib_routes::traffic::Traffic;
+use ib_net::traffic::Traffic;
 
 /// The word of a traffic.
 pub fn word_of(traffic: Traffic) -> &'static str

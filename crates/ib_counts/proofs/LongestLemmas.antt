@@ -10,7 +10,7 @@ use Rattle.ib_counts.proofs.EndLemmas.{begins_at}
 use Rattle.ib_net.specs.Fabric.{FabricOf, IsFabric, start_of, switch_count}
 use Rattle.ib_routes.specs.declared.hop.Hop.{Hop}
 use Rattle.ib_routes.specs.declared.hop.Outcome.TheVariants.{Arrives}
-use Rattle.ib_routes.specs.declared.traffic.Traffic.{Traffic}
+use Rattle.ib_net.specs.declared.traffic.Traffic.{Traffic}
 use Rattle.ib_routes.specs.Routes.{EndsAs, Sends}
 use Rattle.ib_routes.specs.Waves.{AreStarts, HasBit}
 use Rattle.ib_routes.proofs.StartLemmas.{sender_is, start_low}

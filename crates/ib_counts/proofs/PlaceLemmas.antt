@@ -11,7 +11,7 @@ use Rattle.ib_routes.proofs.CountLemmas.{count_none, count_image, count_more, co
 use Rattle.ib_net.specs.declared.node.EndPort.{EndPort}
 use Rattle.ib_net.specs.declared.node.EndPort.TheVariants.{Host, Switch}
 use Rattle.ib_net.specs.Fabric.{FabricOf, switch_count}
-use Rattle.ib_routes.specs.declared.traffic.Traffic.{Traffic}
+use Rattle.ib_net.specs.declared.traffic.Traffic.{Traffic}
 use Rattle.ib_routes.specs.Routes.{IsSource, Sends}
 use Rattle.ib_routes.proofs.StartLemmas.{cabled_low, sender_is, sent_low, source_low}
 

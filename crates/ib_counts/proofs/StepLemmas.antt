@@ -18,7 +18,7 @@ use Rattle.ib_net.specs.Fabric.{FabricOf, guid_of, owner_of, start_of, switch_co
 use Rattle.ib_routes.specs.declared.hop.Cause.TheVariants.{Missing, Dead, Wrong}
 use Rattle.ib_routes.specs.declared.hop.Outcome.{Outcome}
 use Rattle.ib_routes.specs.declared.hop.Outcome.TheVariants.{Arrives, Stops, Loops}
-use Rattle.ib_routes.specs.declared.traffic.Traffic.{Traffic}
+use Rattle.ib_net.specs.declared.traffic.Traffic.{Traffic}
 use Rattle.ib_routes.specs.Routes.{EndsAs, Sends}
 
 -- a route that is not to be told: another one is, that is no greater

@@ -12,7 +12,7 @@ use Rattle.ib_routes.specs.declared.hop.Hop.{Hop}
 use Rattle.ib_routes.specs.declared.hop.Hop.TheVariants.{Stop}
 use Rattle.ib_routes.specs.declared.hop.Outcome.{Outcome}
 use Rattle.ib_routes.specs.declared.hop.Outcome.TheVariants.{Arrives, Stops, Loops}
-use Rattle.ib_routes.specs.declared.traffic.Traffic.{Traffic}
+use Rattle.ib_net.specs.declared.traffic.Traffic.{Traffic}
 use Rattle.ib_routes.specs.Counting.{IsCountOf}
 use Rattle.ib_routes.specs.Routes.{EndsAs, Sends, WalksBy, hop}
 

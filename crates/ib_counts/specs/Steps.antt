@@ -14,7 +14,7 @@ use Rattle.ib_net.specs.Fabric.{FabricOf, guid_of, switch_count}
 use Rattle.ib_routes.specs.declared.audience.Audience.TheVariants.{Hosts, Everyone}
 use Rattle.ib_routes.specs.declared.hop.Hop.{Hop}
 use Rattle.ib_routes.specs.declared.hop.Outcome.TheVariants.{Arrives}
-use Rattle.ib_routes.specs.declared.traffic.Traffic.{Traffic}
+use Rattle.ib_net.specs.declared.traffic.Traffic.{Traffic}
 use Rattle.ib_routes.specs.Audience.{IsHeardFrom}
 use Rattle.ib_routes.specs.Counting.{IsCountOf}
 use Rattle.ib_routes.specs.Routes.{EndsAs, IsSource, Sends}

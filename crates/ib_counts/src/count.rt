@@ -5,7 +5,7 @@ ghost use Rattle.ib_net.specs.Fabric.{switch_count};
 ghost use Rattle.ib_cells.specs.Cells.{tables_of};
 ghost use Rattle.ib_routes.specs.declared.trace.Mark.TheVariants.{New};
 ghost use Rattle.ib_routes.specs.Audience.{IsAudience};
-ghost use Rattle.ib_routes.specs.declared.traffic.Traffic.{Traffic};
+ghost use Rattle.ib_net.specs.declared.traffic.Traffic.{Traffic};
 ghost use Rattle.ib_routes.specs.Routes.{EndsAs};
 ghost use Rattle.ib_routes.specs.Starts.{AreAllSenders};
 ghost use Rattle.ib_routes.specs.Trace.{IsReady, hop_to, whole};
@@ -25,7 +25,7 @@ use ib_routes::audience::{Audience, audience_of, sender_start};
 use ib_routes::hop::Outcome;
 use ib_routes::sender::{Senders, find_senders, put_starts};
 use ib_routes::trace::{Mark, Target, trace};
-use ib_routes::traffic::Traffic;
+use ib_net::traffic::Traffic;
 use std::alloc::Global;
 
 /// Marks all switches as new.

@@ -5,7 +5,7 @@ ghost use Rattle.ib_cells.specs.Cells.{TablesOf};
 ghost use Rattle.ib_counts.specs.Counts.{IsOf, Route, RouteEnds};
 ghost use Rattle.ib_net.specs.Fabric.{FabricOf, IsFabric};
 ghost use Rattle.ib_routes.specs.declared.hop.Outcome.{Outcome};
-ghost use Rattle.ib_routes.specs.declared.traffic.Traffic.{Traffic};
+ghost use Rattle.ib_net.specs.declared.traffic.Traffic.{Traffic};
 
 /// Each route of a traffic ends in one way: it arrives by so many switches, stops by one cause, or goes on
 /// for ever.

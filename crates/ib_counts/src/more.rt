@@ -5,7 +5,7 @@ ghost use Rattle.ib_net.specs.Fabric.{owner_of, start_of, switch_count};
 ghost use Rattle.ib_cells.specs.Cells.{tables_of};
 ghost use Rattle.ib_routes.specs.declared.hop.Outcome.{Outcome};
 ghost use Rattle.ib_routes.specs.declared.hop.Outcome.TheVariants.{Loops, Stops};
-ghost use Rattle.ib_routes.specs.declared.traffic.Traffic.{Traffic};
+ghost use Rattle.ib_net.specs.declared.traffic.Traffic.{Traffic};
 ghost use Rattle.ib_routes.specs.Routes.{EndsAs, Sends};
 ghost use Rattle.ib_counts.specs.Counts.{AreCountsOf, AreLosses, IsLoss, IsLost, hop_for, sum_of};
 ghost use Rattle.ib_counts.specs.Steps.{IsBefore, IsLesser, IsUpTo, unowned_of};

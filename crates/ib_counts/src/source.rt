@@ -11,7 +11,7 @@ use ib_net::fabric::Fabric;
 use ib_net::node::EndPort;
 use ib_routes::audience::Audience;
 use ib_routes::start::is_source;
-use ib_routes::traffic::Traffic;
+use ib_net::traffic::Traffic;
 
 /// How many end ports there are.
 pub fn end_ports(fabric: &Fabric) -> usize

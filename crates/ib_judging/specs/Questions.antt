@@ -5,7 +5,7 @@ use Rattle.outside.specs.Told.{Seen}
 use Rattle.calling.specs.declared.input.Unread.{Unread}
 use Rattle.calling.specs.declared.input.Unread.TheVariants as no_input
 use Rattle.calling.specs.Inputs.{IsInput, IsUnread}
-use Rattle.ib_routes.specs.declared.traffic.Traffic.{Traffic}
+use Rattle.ib_net.specs.declared.traffic.Traffic.{Traffic}
 use Rattle.ib_answering.specs.Answer.{IsAnswer, Streams}
 use Rattle.ib_answering.specs.declared.status.Status.{Status}
 use Rattle.ib_answering.specs.declared.status.Status.TheVariants.{OutOfMemory, RanksTooLong, ReadFault}

@@ -2,8 +2,8 @@
 
 use Rattle.std.specs.Prelude.{◌≡◌, ◌==◌, ◌&&◌, ◌+◌, ◌<◌, ◌≤◌, ℕ, Bool, true, false, not, List, ◌∷◌, Option, Some, None, codes, if◌then◌else◌, is_none, nat_lt, slice_get, slice_index, unwrap_or, ⊤}
 use Rattle.std.specs.Option.{option_and_then}
-use Rattle.ib_routes.specs.declared.traffic.Traffic.{Traffic}
-use Rattle.ib_routes.specs.declared.traffic.Traffic.TheVariants.{Hosts}
+use Rattle.ib_net.specs.declared.traffic.Traffic.{Traffic}
+use Rattle.ib_net.specs.declared.traffic.Traffic.TheVariants.{Hosts}
 use Rattle.ib_judging.specs.declared.said.Part.{Part}
 use Rattle.ib_judging.specs.declared.said.Part.TheVariants.{Any, Of, Files}
 use Rattle.ib_judging.specs.declared.said.Said.{Said}

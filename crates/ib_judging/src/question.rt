@@ -11,7 +11,7 @@ use ib_answering::status::{Status, finish};
 use ib_commands::commands::{Judge, Ranks};
 use ib_commands::dot::Dot;
 use ib_commands::verify::Verify;
-use ib_routes::traffic::Traffic;
+use ib_net::traffic::Traffic;
 use outside::sink::Sink;
 use outside::source::Source;
 use std::alloc::Global;

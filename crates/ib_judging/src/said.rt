@@ -5,7 +5,7 @@ ghost use Rattle.ib_judging.specs.Said.{after, is_plain, is_standard, named, not
 ghost use Rattle.ib_judging.specs.Said.{rest_of, say, traffic_named, with_file, with_value, with_word};
 
 use common_values::text::Word;
-use ib_routes::traffic::Traffic;
+use ib_net::traffic::Traffic;
 use text_lines::word::{is, number_between};
 
 /// The most words that are no options: four files, and a traffic.

@@ -7,7 +7,7 @@ ghost use Rattle.ib_judging.specs.declared.words.Call.{Call};
 
 use crate::said::{MOST_FILES, Part, Said, said_by, traffic_named};
 use common_values::text::Word;
-use ib_routes::traffic::Traffic;
+use ib_net::traffic::Traffic;
 
 /// What a call asks of tables.
 #[derive(Clone, Copy)]

@@ -13,7 +13,7 @@ use Rattle.ib_routes.specs.Audience.{IsAudience, IsHeard, IsHeardFrom}
 use Rattle.ib_routes.specs.Counting.{IsCountOf}
 use Rattle.ib_routes.specs.declared.audience.Audience.{Audience}
 use Rattle.ib_routes.specs.declared.audience.Audience.TheVariants.{Nobody, Hosts, Everyone}
-use Rattle.ib_routes.specs.declared.traffic.Traffic.{Traffic}
+use Rattle.ib_net.specs.declared.traffic.Traffic.{Traffic}
 use Rattle.ib_routes.proofs.StartLemmas.{cabled_low, sent_low}
 use Rattle.ib_rows.specs.PathLevels.{HasLevel, LevelsOf}
 use Rattle.ib_lane_counts.specs.LaneCounts.{IsSilent}

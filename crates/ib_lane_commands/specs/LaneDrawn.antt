@@ -5,7 +5,7 @@ use Rattle.std.specs.List.{flat_map}
 use Rattle.indexmap.specs.IndexSet.{insert_all}
 use Rattle.ib_net.specs.Fabric.{FabricOf}
 use Rattle.ib_cells.specs.Cells.{tables_of}
-use Rattle.ib_routes.specs.declared.traffic.Traffic.{Traffic}
+use Rattle.ib_net.specs.declared.traffic.Traffic.{Traffic}
 use Rattle.ib_rows.specs.Lanes.{IsLaneCount, lanes_of}
 use Rattle.ib_lines.specs.declared.picture.Arrow.{Arrow}
 use Rattle.ib_lane_verdict.specs.declared.verdict.LaneLoopChannel.{LaneLoopChannel}

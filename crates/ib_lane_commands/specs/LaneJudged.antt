@@ -9,7 +9,7 @@ use Rattle.ib_net.specs.declared.node.EndPort.TheVariants.{Switch}
 use Rattle.ib_net.specs.Fabric.{FabricOf, guid_of}
 use Rattle.ib_topology.specs.Unset.{unset_of}
 use Rattle.ib_cells.specs.Cells.{TablesOf, tables_of}
-use Rattle.ib_routes.specs.declared.traffic.Traffic.{Traffic}
+use Rattle.ib_net.specs.declared.traffic.Traffic.{Traffic}
 use Rattle.ib_rows.specs.Lanes.{IsLaneCount, LanesOf, lanes_of}
 use Rattle.ib_rows.specs.PathLevels.{LevelsOf}
 use Rattle.ib_lane_routes.specs.LaneFound.{SomeIsLaneStopped}

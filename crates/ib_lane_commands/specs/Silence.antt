@@ -8,7 +8,7 @@ use Rattle.ib_cells.specs.Cells.{TablesOf}
 use Rattle.ib_counts.specs.Counts.{Route}
 use Rattle.ib_routes.specs.Audience.{IsHeard}
 use Rattle.ib_routes.specs.declared.audience.Audience.{Audience}
-use Rattle.ib_routes.specs.declared.traffic.Traffic.{Traffic}
+use Rattle.ib_net.specs.declared.traffic.Traffic.{Traffic}
 use Rattle.ib_rows.specs.PathLevels.{HasLevel, LevelsOf}
 use Rattle.ib_lane_counts.specs.LaneCounts.{IsSilent}
 use Rattle.ib_lane_lines.specs.declared.answer.Mute.{Mute}

@@ -25,7 +25,7 @@ use ib_lane_lines::answer::{Asked, LaneAnswer, Mute};
 use ib_lane_routes::routing::LaneRouting;
 use ib_lane_verdict::judge::LaneJudgement;
 use ib_lines::answer::Routes;
-use ib_routes::traffic::Traffic;
+use ib_net::traffic::Traffic;
 use ib_verdict::links::count_links;
 use std::alloc::Global;
 

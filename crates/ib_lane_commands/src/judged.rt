@@ -3,7 +3,7 @@
 ghost use Rattle.std.specs.Prelude.{ℕ, IfOk};
 ghost use Rattle.ib_cells.specs.Cells.{TablesOf, tables_of};
 ghost use Rattle.ib_net.specs.Fabric.{FabricOf};
-ghost use Rattle.ib_routes.specs.declared.traffic.Traffic.{Traffic};
+ghost use Rattle.ib_net.specs.declared.traffic.Traffic.{Traffic};
 ghost use Rattle.ib_rows.specs.Lanes.{LanesOf, lanes_of};
 ghost use Rattle.ib_rows.specs.Levels.{levels_of};
 ghost use Rattle.ib_rows.specs.PathLevels.{LevelsOf};
@@ -19,7 +19,7 @@ use ib_lane_lines::answer::Mute;
 use ib_lane_routes::routing::LaneRouting;
 use ib_lane_verdict::judge::{LaneJudgement, judge};
 use ib_lane_verdict::verdict::{LaneLoopChannel, LaneVerdict};
-use ib_routes::traffic::Traffic;
+use ib_net::traffic::Traffic;
 use std::alloc::Global;
 
 /// The judgement of what was read.

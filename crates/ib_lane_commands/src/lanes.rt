@@ -13,7 +13,7 @@ use common_values::memory::OutOfMemory;
 use ib_answering::command::Given;
 use ib_lane_lines::answer::Asked;
 use ib_lane_lines::printer::print;
-use ib_routes::traffic::Traffic;
+use ib_net::traffic::Traffic;
 use outside::sink::Sink;
 use outside::source::Source;
 use std::alloc::Global;

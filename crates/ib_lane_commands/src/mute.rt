@@ -13,7 +13,7 @@ use ib_lane_lines::answer::Mute;
 use ib_net::fabric::Fabric;
 use ib_net::node::EndPort;
 use ib_routes::audience::{Audience, audience_of, is_heard};
-use ib_routes::traffic::Traffic;
+use ib_net::traffic::Traffic;
 use ib_rows::levels::Levels;
 
 // Whether an end port sends to a LID, and has no level for it.

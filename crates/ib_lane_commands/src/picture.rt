@@ -23,7 +23,7 @@ use ib_lane_lines::answer::{Asked, Mute};
 use ib_lane_lines::picture::{LaneArrow, LanePicture, print_picture};
 use ib_lane_verdict::verdict::LaneLoopChannel;
 use ib_net::fabric::Fabric;
-use ib_routes::traffic::Traffic;
+use ib_net::traffic::Traffic;
 use indexmap::IndexSet;
 use outside::sink::Sink;
 use outside::source::Source;

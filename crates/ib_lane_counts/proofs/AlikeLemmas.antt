@@ -28,7 +28,7 @@ use Rattle.ib_routes.specs.Counting.{IsCountOf}
 use Rattle.ib_routes.specs.declared.hop.Cause.TheVariants.{Missing, Dead, Wrong}
 use Rattle.ib_routes.specs.declared.hop.Outcome.{Outcome}
 use Rattle.ib_routes.specs.declared.hop.Outcome.TheVariants as end
-use Rattle.ib_routes.specs.declared.traffic.Traffic.{Traffic}
+use Rattle.ib_net.specs.declared.traffic.Traffic.{Traffic}
 use Rattle.ib_routes.proofs.CountLemmas.{count_image, count_none, count_same, count_sum}
 use Rattle.ib_rows.specs.Lanes.{LanesOf}
 use Rattle.ib_rows.specs.PathLevels.{HasLevel}

@@ -19,7 +19,7 @@ use Rattle.ib_net.specs.declared.node.Side.{Side}
 use Rattle.ib_net.specs.declared.node.Side.TheVariants.{Bare, To}
 use Rattle.ib_net.specs.declared.node.Spot.{Spot}
 use Rattle.ib_net.specs.Fabric.{FabricOf, IsFabric, cable_of, side_of, switch_count}
-use Rattle.ib_routes.specs.declared.traffic.Traffic.{Traffic}
+use Rattle.ib_net.specs.declared.traffic.Traffic.{Traffic}
 use Rattle.ib_routes.specs.Routes.{IsSource}
 use Rattle.ib_routes.proofs.StartLemmas.{source_low}
 use Rattle.ib_rows.specs.Lanes.{LanesOf}

@@ -17,7 +17,7 @@ use Rattle.ib_net.specs.declared.node.EndPort.{EndPort}
 use Rattle.ib_net.specs.declared.node.Spot.{Spot}
 use Rattle.ib_net.specs.Fabric.{FabricOf, IsFabric}
 use Rattle.ib_routes.specs.declared.hop.Outcome.{Outcome}
-use Rattle.ib_routes.specs.declared.traffic.Traffic.{Traffic}
+use Rattle.ib_net.specs.declared.traffic.Traffic.{Traffic}
 use Rattle.ib_routes.specs.Routes.{EndsAs}
 use Rattle.ib_routes.proofs.StartLemmas.{sender_is}
 use Rattle.ib_rows.specs.Lanes.{LanesOf}

@@ -23,7 +23,7 @@ use Rattle.ib_net.specs.declared.node.Spot.{Spot}
 use Rattle.ib_net.specs.Fabric.{FabricOf, owner_of}
 use Rattle.ib_routes.specs.Counting.{IsCountOf}
 use Rattle.ib_routes.specs.declared.hop.Outcome.TheVariants as end
-use Rattle.ib_routes.specs.declared.traffic.Traffic.{Traffic}
+use Rattle.ib_net.specs.declared.traffic.Traffic.{Traffic}
 use Rattle.ib_routes.specs.Routes.{EndsAs, Sends}
 use Rattle.ib_routes.proofs.CountLemmas.{count_image, count_more, count_none, count_same}
 use Rattle.ib_routes.proofs.StartLemmas.{sender_is}

@@ -15,8 +15,8 @@ use Rattle.ib_net.specs.declared.node.Spot.{Spot}
 use Rattle.ib_net.specs.Fabric.{FabricOf, switch_at, switch_count}
 use Rattle.ib_routes.specs.declared.audience.Audience.{Audience}
 use Rattle.ib_routes.specs.declared.audience.Audience.TheVariants as to
-use Rattle.ib_routes.specs.declared.traffic.Traffic.{Traffic}
-use Rattle.ib_routes.specs.declared.traffic.Traffic.TheVariants.{All}
+use Rattle.ib_net.specs.declared.traffic.Traffic.{Traffic}
+use Rattle.ib_net.specs.declared.traffic.Traffic.TheVariants.{All}
 use Rattle.ib_routes.specs.Audience.{IsHeard, IsHeardFrom}
 use Rattle.ib_routes.specs.Routes.{IsSource, Sends}
 use Rattle.ib_routes.proofs.StartLemmas.{sender_is}

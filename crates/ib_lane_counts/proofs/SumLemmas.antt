@@ -20,7 +20,7 @@ use Rattle.ib_routes.specs.Audience.{IsAudience}
 use Rattle.ib_routes.specs.Counting.{IsCountOf}
 use Rattle.ib_routes.specs.declared.audience.Audience.{Audience}
 use Rattle.ib_routes.specs.declared.audience.Audience.TheVariants.{Nobody}
-use Rattle.ib_routes.specs.declared.traffic.Traffic.{Traffic}
+use Rattle.ib_net.specs.declared.traffic.Traffic.{Traffic}
 use Rattle.ib_routes.specs.Routes.{Sends}
 use Rattle.ib_routes.proofs.CountLemmas.{count_more, count_none, count_same, count_sum}
 use Rattle.ib_routes.proofs.StartLemmas.{sender_is}

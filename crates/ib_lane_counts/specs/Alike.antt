@@ -9,7 +9,7 @@ use Rattle.ib_lane_counts.specs.declared.counts.LaneLosses.{LaneLosses}
 use Rattle.ib_lane_counts.specs.declared.counts.LostLaneRoute.{LostLaneRoute}
 use Rattle.ib_lane_counts.specs.LaneCounts.{IsLaneRouteOf, LaneRoute}
 use Rattle.ib_net.specs.Fabric.{FabricOf}
-use Rattle.ib_routes.specs.declared.traffic.Traffic.{Traffic}
+use Rattle.ib_net.specs.declared.traffic.Traffic.{Traffic}
 use Rattle.ib_rows.specs.declared.levels.Levels.TheVariants.{Same}
 use Rattle.ib_rows.specs.Levels.{levels_of}
 use Rattle.ib_rows.specs.PathLevels.{LevelsOf}

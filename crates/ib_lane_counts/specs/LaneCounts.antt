@@ -17,7 +17,7 @@ use Rattle.ib_net.specs.declared.node.Spot.{Spot}
 use Rattle.ib_net.specs.Fabric.{FabricOf, guid_of, owner_of}
 use Rattle.ib_routes.specs.Counting.{IsCountOf}
 use Rattle.ib_routes.specs.declared.hop.Cause.TheVariants.{Missing, Dead, Wrong}
-use Rattle.ib_routes.specs.declared.traffic.Traffic.{Traffic}
+use Rattle.ib_net.specs.declared.traffic.Traffic.{Traffic}
 use Rattle.ib_routes.specs.Routes.{Sends}
 use Rattle.ib_rows.specs.Lanes.{LanesOf}
 use Rattle.ib_rows.specs.PathLevels.{HasLevel, LevelsOf}

@@ -18,7 +18,7 @@ use Rattle.ib_net.specs.Fabric.{FabricOf, guid_of}
 use Rattle.ib_routes.specs.Counting.{IsCountOf}
 use Rattle.ib_routes.specs.declared.hop.Outcome.{Outcome}
 use Rattle.ib_routes.specs.declared.hop.Outcome.TheVariants.{Arrives, Stops, Loops}
-use Rattle.ib_routes.specs.declared.traffic.Traffic.{Traffic}
+use Rattle.ib_net.specs.declared.traffic.Traffic.{Traffic}
 use Rattle.ib_rows.specs.Lanes.{LanesOf}
 use Rattle.ib_rows.specs.Levels.{levels_of}
 use Rattle.ib_rows.specs.PathLevels.{LevelsOf}

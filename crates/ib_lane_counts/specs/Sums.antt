@@ -12,7 +12,7 @@ use Rattle.ib_routes.specs.Audience.{IsAudience}
 use Rattle.ib_routes.specs.Counting.{IsCountOf}
 use Rattle.ib_routes.specs.declared.audience.Audience.{Audience}
 use Rattle.ib_routes.specs.declared.audience.Audience.TheVariants.{Nobody}
-use Rattle.ib_routes.specs.declared.traffic.Traffic.{Traffic}
+use Rattle.ib_net.specs.declared.traffic.Traffic.{Traffic}
 use Rattle.ib_rows.specs.Levels.{levels_of}
 use Rattle.ib_rows.specs.PathLevels.{LevelsOf}
 

@@ -7,7 +7,7 @@ ghost use Rattle.ib_lane_counts.specs.Alike.{IsBelow, alike, least_with, loss_wi
 ghost use Rattle.ib_lane_counts.specs.Keep.{IsKept};
 ghost use Rattle.ib_lane_counts.specs.LaneCounts.{AreCountsOf, AreLaneCounts, lane_sum_of};
 ghost use Rattle.ib_net.specs.Fabric.{FabricOf, IsFabric};
-ghost use Rattle.ib_routes.specs.declared.traffic.Traffic.{Traffic};
+ghost use Rattle.ib_net.specs.declared.traffic.Traffic.{Traffic};
 ghost use Rattle.ib_rows.specs.Lanes.{LanesOf};
 
 use crate::counts::{LaneCounts, LaneLoss, LaneLosses, LostLaneRoute};

@@ -10,7 +10,7 @@ ghost use Rattle.ib_lane_counts.specs.Sums.{AreAudiencesOf, AreSumsOf, IsUnowned
 ghost use Rattle.ib_net.specs.Fabric.{FabricOf, IsFabric};
 ghost use Rattle.ib_routes.specs.Audience.{IsAudience};
 ghost use Rattle.ib_routes.specs.Counting.{IsCountOf};
-ghost use Rattle.ib_routes.specs.declared.traffic.Traffic.{Traffic};
+ghost use Rattle.ib_net.specs.declared.traffic.Traffic.{Traffic};
 ghost use Rattle.ib_rows.specs.Lanes.{LanesOf};
 ghost use Rattle.ib_rows.specs.PathLevels.{LevelsOf};
 

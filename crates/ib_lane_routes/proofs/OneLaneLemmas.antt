@@ -11,7 +11,7 @@ use Rattle.ib_net.specs.declared.node.EndPort.TheVariants as end
 use Rattle.ib_net.specs.Fabric.{FabricOf, cable_of, owner_of, side_of, start_of, switch_at}
 use Rattle.ib_routes.specs.declared.hop.Hop.{Hop}
 use Rattle.ib_routes.specs.declared.hop.Hop.TheVariants as one
-use Rattle.ib_routes.specs.declared.traffic.Traffic.{Traffic}
+use Rattle.ib_net.specs.declared.traffic.Traffic.{Traffic}
 use Rattle.ib_routes.specs.Routes.{ComesBy, Takes, end_if, hop, hop_by, hop_over, ends_at_host, ends_at_switch}
 use Rattle.ib_lane_routes.specs.declared.hop.LaneHop.{LaneHop}
 use Rattle.ib_lane_routes.specs.declared.hop.LaneHop.TheVariants.{On, Arrive, Stop, Discard}

@@ -6,7 +6,7 @@ use Rattle.ib_net.specs.Fabric.{FabricOf, guid_of, side_of}
 use Rattle.ib_cells.specs.Cells.{TablesOf}
 use Rattle.ib_rows.specs.Lanes.{LanesOf}
 use Rattle.ib_rows.specs.PathLevels.{LevelsOf}
-use Rattle.ib_routes.specs.declared.traffic.Traffic.{Traffic}
+use Rattle.ib_net.specs.declared.traffic.Traffic.{Traffic}
 use Rattle.ib_routes.specs.Routes.{Channel}
 use Rattle.ib_lane_routes.specs.LaneRoutes.{IsLaneStopped, LaneChannel, LaneTakes}
 

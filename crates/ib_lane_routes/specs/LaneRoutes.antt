@@ -9,7 +9,7 @@ use Rattle.ib_net.specs.Fabric.{FabricOf, cable_of, owner_of, side_of}
 use Rattle.ib_cells.specs.Cells.{TablesOf}
 use Rattle.ib_rows.specs.Lanes.{LanesOf}
 use Rattle.ib_rows.specs.PathLevels.{HasLevel, LevelsOf}
-use Rattle.ib_routes.specs.declared.traffic.Traffic.{Traffic}
+use Rattle.ib_net.specs.declared.traffic.Traffic.{Traffic}
 use Rattle.ib_routes.specs.declared.hop.Cause.TheVariants.{Missing, Dead, Wrong}
 use Rattle.ib_routes.specs.Routes.{Sends, ends_at_host, ends_at_switch}
 use Rattle.ib_lane_routes.specs.declared.hop.LaneHop.{LaneHop}

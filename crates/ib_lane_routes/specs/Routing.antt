@@ -7,7 +7,7 @@ use Rattle.ib_cells.specs.Cells.{TablesOf, tables_of}
 use Rattle.ib_rows.specs.Lanes.{LanesOf, lanes_of}
 use Rattle.ib_rows.specs.Levels.{levels_of}
 use Rattle.ib_rows.specs.PathLevels.{LevelsOf}
-use Rattle.ib_routes.specs.declared.traffic.Traffic.{Traffic}
+use Rattle.ib_net.specs.declared.traffic.Traffic.{Traffic}
 use Rattle.ib_lane_routes.specs.declared.hop.LaneHop.{LaneHop}
 use Rattle.ib_lane_routes.specs.declared.routing.LaneRouting.{LaneRouting}
 use Rattle.ib_lane_routes.specs.LaneRoutes.{lane_hop}

@@ -5,7 +5,7 @@ ghost use Rattle.ib_net.specs.Fabric.{switch_count};
 
 use ib_cells::cells::Cells;
 use ib_net::fabric::Fabric;
-use ib_routes::traffic::Traffic;
+use ib_net::traffic::Traffic;
 use ib_rows::lanes::LaneRows;
 use ib_rows::levels::Levels;
 

@@ -2,7 +2,7 @@
 
 ghost use Rattle.std.specs.Prelude.{◌≡◌, ◌<◌, IfSome};
 ghost use Rattle.ib_net.specs.Fabric.{switch_count};
-ghost use Rattle.ib_routes.specs.declared.traffic.Traffic.{Traffic};
+ghost use Rattle.ib_net.specs.declared.traffic.Traffic.{Traffic};
 ghost use Rattle.ib_routes.specs.Routes.{IsSource};
 ghost use Rattle.ib_lane_routes.specs.LaneRoutes.{begin_of};
 

@@ -8,7 +8,7 @@ use Rattle.ib_net.specs.declared.node.Spot.{Spot}
 use Rattle.ib_net.specs.Fabric.{FabricOf}
 use Rattle.ib_rows.specs.Lanes.{IsLaneCount, LanesOf}
 use Rattle.ib_rows.specs.PathLevels.{LevelsOf}
-use Rattle.ib_routes.specs.declared.traffic.Traffic.{Traffic}
+use Rattle.ib_net.specs.declared.traffic.Traffic.{Traffic}
 use Rattle.ib_routes.specs.Routes.{IsSource}
 use Rattle.ib_routes.proofs.StartLemmas.{sender_is}
 use Rattle.ib_verdict.proofs.RankLemmas.{value}

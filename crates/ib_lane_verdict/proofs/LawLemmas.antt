@@ -11,7 +11,7 @@ use Rattle.ib_net.specs.declared.node.EndPort.{EndPort}
 use Rattle.ib_net.specs.Fabric.{FabricOf}
 use Rattle.ib_routes.specs.declared.hop.Hop.{Hop}
 use Rattle.ib_routes.specs.declared.hop.Hop.TheVariants as one
-use Rattle.ib_routes.specs.declared.traffic.Traffic.{Traffic}
+use Rattle.ib_net.specs.declared.traffic.Traffic.{Traffic}
 use Rattle.ib_routes.specs.Routes.{Channel, ComesBy, DependsOn, Sends, hop}
 use Rattle.ib_verdict.specs.Verdict.{AllArrive}
 use Rattle.ib_lane_routes.specs.declared.hop.LaneHop.TheVariants.{Discard}

@@ -16,7 +16,7 @@ use Rattle.ib_net.specs.declared.node.Side.TheVariants.{Bare, To, End}
 use Rattle.ib_net.specs.Fabric.{FabricOf, IsFabric, side_of, switch_count}
 use Rattle.ib_rows.specs.Lanes.{IsLaneCount, LanesOf}
 use Rattle.ib_rows.specs.PathLevels.{LevelsOf}
-use Rattle.ib_routes.specs.declared.traffic.Traffic.{Traffic}
+use Rattle.ib_net.specs.declared.traffic.Traffic.{Traffic}
 use Rattle.ib_routes.specs.Counting.{IsCountOf}
 use Rattle.ib_routes.specs.Found.{number}
 use Rattle.ib_routes.proofs.ChannelLemmas.{channel_low, channel_place}

@@ -4,7 +4,7 @@ use Rattle.ib_cells.specs.Cells.{TablesOf}
 use Rattle.ib_net.specs.Fabric.{FabricOf, IsFabric, switch_count}
 use Rattle.ib_rows.specs.Lanes.{LanesOf}
 use Rattle.ib_rows.specs.PathLevels.{LevelsOf}
-use Rattle.ib_routes.specs.declared.traffic.Traffic.{Traffic}
+use Rattle.ib_net.specs.declared.traffic.Traffic.{Traffic}
 use Rattle.ib_verdict.proofs.LoopLemmas as list
 use Rattle.ib_lane_routes.specs.LaneRoutes.{LaneChannel, LaneDependsOn}
 use Rattle.ib_lane_routes.proofs.OnLemmas.{lane_on}

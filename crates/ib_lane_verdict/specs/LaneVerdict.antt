@@ -9,7 +9,7 @@ use Rattle.ib_rows.specs.PathLevels.{LevelsOf}
 use Rattle.ib_net.specs.declared.node.EndPort.{EndPort}
 use Rattle.ib_net.specs.declared.node.Spot.{Spot}
 use Rattle.ib_net.specs.Fabric.{FabricOf, side_of}
-use Rattle.ib_routes.specs.declared.traffic.Traffic.{Traffic}
+use Rattle.ib_net.specs.declared.traffic.Traffic.{Traffic}
 use Rattle.ib_verdict.specs.Verdict.{rank_over}
 use Rattle.ib_lane_routes.specs.declared.hop.LaneHop.TheVariants.{Arrive, Discard}
 use Rattle.ib_lane_routes.specs.LaneFound.{IsLaneChannel, IsLeastLaneWitness, lane_number}

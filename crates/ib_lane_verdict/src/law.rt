@@ -6,7 +6,7 @@ ghost use Rattle.ib_cells.specs.Cells.{TablesOf};
 ghost use Rattle.ib_rows.specs.Lanes.{LanesOf};
 ghost use Rattle.ib_rows.specs.PathLevels.{AreLevelsAmong, LevelsOf};
 ghost use Rattle.ib_net.specs.Fabric.{FabricOf};
-ghost use Rattle.ib_routes.specs.declared.traffic.Traffic.{Traffic};
+ghost use Rattle.ib_net.specs.declared.traffic.Traffic.{Traffic};
 ghost use Rattle.ib_routes.specs.Routes.{DependsOn};
 ghost use Rattle.ib_lane_routes.specs.LaneFound.{link_of};
 ghost use Rattle.ib_lane_routes.specs.LaneRoutes.{LaneChannel, LaneDependsOn};

@@ -8,7 +8,7 @@ use Rattle.ib_rows.specs.PathLevels.{HasLevel, LevelsOf}
 use Rattle.ib_net.specs.declared.node.EndPort.{EndPort}
 use Rattle.ib_net.specs.declared.node.Spot.{Spot}
 use Rattle.ib_net.specs.Fabric.{FabricOf, switch_count}
-use Rattle.ib_routes.specs.declared.traffic.Traffic.{Traffic}
+use Rattle.ib_net.specs.declared.traffic.Traffic.{Traffic}
 use Rattle.ib_routes.specs.Routes.{IsSource}
 use Rattle.ib_routes.specs.Waves.{HasBit}
 use Rattle.ib_routes.proofs.StartLemmas.{sender_is}

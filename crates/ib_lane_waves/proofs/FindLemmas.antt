@@ -10,7 +10,7 @@ use Rattle.ib_rows.specs.PathLevels.{LevelsOf}
 use Rattle.ib_net.specs.declared.node.EndPort.{EndPort}
 use Rattle.ib_net.specs.declared.node.Spot.{Spot}
 use Rattle.ib_net.specs.Fabric.{FabricOf}
-use Rattle.ib_routes.specs.declared.traffic.Traffic.{Traffic}
+use Rattle.ib_net.specs.declared.traffic.Traffic.{Traffic}
 use Rattle.ib_routes.specs.Routes.{Sends}
 use Rattle.ib_routes.proofs.ChannelLemmas.{channel_low}
 use Rattle.ib_lane_routes.specs.LaneFound.{IsLaneChannel, SomeIsLaneStopped, lane_number}

@@ -12,7 +12,7 @@ use Rattle.ib_net.specs.declared.node.Spot.{Spot}
 use Rattle.ib_net.specs.Fabric.{FabricOf, switch_count}
 use Rattle.ib_rows.specs.Lanes.{LaneRowsOf, LanesOf, lane_by, lanes_of, told_row}
 use Rattle.ib_rows.proofs.RowLemmas.{told_none}
-use Rattle.ib_routes.specs.declared.traffic.Traffic.{Traffic}
+use Rattle.ib_net.specs.declared.traffic.Traffic.{Traffic}
 use Rattle.ib_routes.specs.Routes.{IsSource}
 use Rattle.ib_routes.proofs.StartLemmas.{cabled_low, source_low}
 use Rattle.ib_lane_routes.specs.LaneRoutes.{begin_of}

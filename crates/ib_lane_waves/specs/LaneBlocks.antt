@@ -10,7 +10,7 @@ use Rattle.ib_rows.specs.PathLevels.{AreLevelsBelow, LevelsOf}
 use Rattle.ib_net.specs.declared.node.EndPort.{EndPort}
 use Rattle.ib_net.specs.declared.node.Spot.{Spot}
 use Rattle.ib_net.specs.Fabric.{FabricOf, owner_of, switch_count}
-use Rattle.ib_routes.specs.declared.traffic.Traffic.{Traffic}
+use Rattle.ib_net.specs.declared.traffic.Traffic.{Traffic}
 use Rattle.ib_routes.specs.declared.audience.Targets.{Targets}
 use Rattle.ib_routes.specs.Audience.{AreTargets}
 use Rattle.ib_routes.specs.Routes.{Sends}

@@ -6,7 +6,7 @@ use Rattle.ib_net.specs.declared.node.EndPort.TheVariants.{Host, Switch}
 use Rattle.ib_net.specs.declared.node.Spot.{Spot}
 use Rattle.ib_net.specs.Fabric.{FabricOf, switch_count}
 use Rattle.ib_rows.specs.Lanes.{LanesOf, lanes_of}
-use Rattle.ib_routes.specs.declared.traffic.Traffic.{Traffic}
+use Rattle.ib_net.specs.declared.traffic.Traffic.{Traffic}
 use Rattle.ib_routes.specs.Routes.{IsSource}
 use Rattle.ib_lane_routes.specs.LaneRoutes.{begin_of}
 use Rattle.ib_lane_routes.specs.declared.routing.LaneRouting.{LaneRouting}

@@ -11,7 +11,7 @@ use Rattle.ib_net.specs.Fabric.{FabricOf, IsFabric, side_of}
 use Rattle.ib_cells.specs.Cells.{TablesOf}
 use Rattle.ib_rows.specs.Lanes.{LanesOf}
 use Rattle.ib_rows.specs.PathLevels.{LevelsOf}
-use Rattle.ib_routes.specs.declared.traffic.Traffic.{Traffic}
+use Rattle.ib_net.specs.declared.traffic.Traffic.{Traffic}
 use Rattle.ib_routes.specs.Witness.{IsFirst, IsFirstSource, IsLesser}
 use Rattle.ib_routes.proofs.StartLemmas.{cabled_low, sender_is, source_low}
 use Rattle.ib_routes.proofs.WitnessLemmas.{first_of}

@@ -8,7 +8,7 @@ use Rattle.ib_net.specs.Fabric.{FabricOf, switch_count}
 use Rattle.ib_cells.specs.Cells.{TablesOf, tables_of}
 use Rattle.ib_rows.specs.Lanes.{LanesOf}
 use Rattle.ib_rows.specs.PathLevels.{LevelsOf}
-use Rattle.ib_routes.specs.declared.traffic.Traffic.{Traffic}
+use Rattle.ib_net.specs.declared.traffic.Traffic.{Traffic}
 use Rattle.ib_routes.specs.Audience.{IsAudience}
 use Rattle.ib_routes.specs.declared.trace.Mark.{Mark}
 use Rattle.ib_routes.specs.Trace.{IsReady, hop_to, way}

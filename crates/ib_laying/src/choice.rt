@@ -15,7 +15,7 @@ use ib_net::fabric::Fabric;
 use ib_orders::materials::{Materials, Wanted};
 use ib_orders::recipe::{Recipe, Shape};
 use ib_rising::plan::Plan;
-use ib_routes::traffic::Traffic;
+use ib_net::traffic::Traffic;
 use std::alloc::Global;
 
 // How many rounds the best orders get.

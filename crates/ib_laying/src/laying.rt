@@ -14,7 +14,7 @@ use ib_rising::fans::{Fans, Step};
 use ib_rising::loads::Loads;
 use ib_rising::plan::Plan;
 use ib_rising::rows::Rows;
-use ib_routes::traffic::Traffic;
+use ib_net::traffic::Traffic;
 use std::alloc::Global;
 use std::ops::Range;
 

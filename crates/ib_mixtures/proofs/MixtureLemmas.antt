@@ -7,8 +7,8 @@ use Rattle.ib_cells.specs.Cells.{TablesOf}
 use Rattle.ib_net.specs.declared.node.EndPort.TheVariants as port
 use Rattle.ib_net.specs.Fabric.{FabricOf}
 use Rattle.ib_routes.specs.declared.hop.Hop.TheVariants.{On}
-use Rattle.ib_routes.specs.declared.traffic.Traffic.{Traffic}
-use Rattle.ib_routes.specs.declared.traffic.Traffic.TheVariants.{All}
+use Rattle.ib_net.specs.declared.traffic.Traffic.{Traffic}
+use Rattle.ib_net.specs.declared.traffic.Traffic.TheVariants.{All}
 use Rattle.ib_routes.specs.Routes.{Channel, DependsOn, SendsToOwner, hop, hop_by}
 use Rattle.ib_mixtures.specs.Mixtures.{IsEmptied, IsMixture, MayBeFollowed, MayTake, MayTakeBoth}
 use Rattle.ib_mixtures.specs.Moves.{DependsWhile}

@@ -4,7 +4,7 @@ use Rattle.ib_cells.specs.Cells.{TablesOf}
 use Rattle.ib_net.specs.declared.node.EndPort.{EndPort}
 use Rattle.ib_net.specs.Fabric.{FabricOf, start_of}
 use Rattle.ib_routes.specs.declared.hop.Hop.TheVariants.{On}
-use Rattle.ib_routes.specs.declared.traffic.Traffic.{Traffic}
+use Rattle.ib_net.specs.declared.traffic.Traffic.{Traffic}
 use Rattle.ib_routes.specs.Routes.{Channel, Sends, hop}
 use Rattle.ib_mixtures.specs.Mixtures.{IsMixture}
 

@@ -11,3 +11,4 @@ pub mod fabric;
 pub mod node;
 pub mod nodes;
 mod side;
+pub mod traffic;

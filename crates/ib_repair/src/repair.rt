@@ -21,7 +21,7 @@ use ib_channels::table::Table;
 use ib_laying::measures::Measures;
 use ib_net::fabric::Fabric;
 use ib_orders::levels::{order_by_height, order_from_root};
-use ib_routes::traffic::Traffic;
+use ib_net::traffic::Traffic;
 use ib_sorting::effort::Effort;
 use ib_sorting::sorting::{Sorting, Wanted, heaviest};
 use std::alloc::Global;

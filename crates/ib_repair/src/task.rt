@@ -7,7 +7,7 @@ use ib_channels::demand::{Demand, Target};
 use ib_channels::table::Table;
 use ib_net::fabric::Fabric;
 use ib_rising::plan::{is_from_all, sends_to};
-use ib_routes::traffic::Traffic;
+use ib_net::traffic::Traffic;
 use std::alloc::Global;
 
 // How many slots a switch has: one for each number that a port may have.

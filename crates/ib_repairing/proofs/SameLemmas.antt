@@ -2,7 +2,7 @@
 use Rattle.std.proofs.Common.{◌≡◌, ◌∙◌, ap, List}
 use Rattle.ib_cells.specs.Cells.{CellsOf, tables_of}
 use Rattle.ib_net.specs.Fabric.{FabricOf}
-use Rattle.ib_routes.specs.declared.traffic.Traffic.{Traffic}
+use Rattle.ib_net.specs.declared.traffic.Traffic.{Traffic}
 use Rattle.ib_repairing.specs.declared.rows.SetRow.{SetRow}
 use Rattle.ib_repairing.specs.SetRows.{with_rows}
 use Rattle.ib_repairing.specs.Given.{AreToBeSet}

@@ -4,7 +4,7 @@ use Rattle.std.specs.Prelude.{◌≡◌, ◌≢◌, ◌⊎◌, ℕ, List, Option
 use Rattle.ib_net.specs.Fabric.{FabricOf}
 use Rattle.ib_cells.specs.Cells.{CellsOf, tables_of}
 use Rattle.ib_routes.specs.Counting.{IsCountOf}
-use Rattle.ib_routes.specs.declared.traffic.Traffic.{Traffic}
+use Rattle.ib_net.specs.declared.traffic.Traffic.{Traffic}
 use Rattle.ib_tables.specs.declared.reader.Tables.{Tables}
 use Rattle.ib_tables_text.specs.Texts.{IsTextOf}
 use Rattle.ib_answering.specs.Answer.{Gives}

@@ -17,7 +17,7 @@ use ib_answering::status::Status;
 use ib_commands::words::word_of;
 use ib_net::fabric::Fabric;
 use ib_repair::repair::Repaired;
-use ib_routes::traffic::Traffic;
+use ib_net::traffic::Traffic;
 use ib_routing::apart::find_apart;
 use ib_routing::measured::measured;
 use ib_tables::reader::Tables;

@@ -4,7 +4,7 @@ ghost use Rattle.std.specs.Prelude.{◌≡◌, ℕ, List};
 ghost use Rattle.ib_cells.specs.Cells.{TablesOf, tables_of};
 ghost use Rattle.ib_fabric.specs.Fabrics.{IsFabricText};
 ghost use Rattle.ib_net.specs.Fabric.{FabricOf};
-ghost use Rattle.ib_routes.specs.declared.traffic.Traffic.{Traffic};
+ghost use Rattle.ib_net.specs.declared.traffic.Traffic.{Traffic};
 ghost use Rattle.ib_tables.specs.Tables.{IsTablesText};
 ghost use Rattle.ib_tables.specs.declared.reader.Tables.{Tables};
 ghost use Rattle.ib_answering.specs.declared.status.Status.{Status};

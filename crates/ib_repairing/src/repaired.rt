@@ -16,7 +16,7 @@ use ib_cells::cells::Cells;
 use ib_commands::answer::status_of;
 use ib_net::fabric::Fabric;
 use ib_repair::repair::{Repaired, keep, repair};
-use ib_routes::traffic::Traffic;
+use ib_net::traffic::Traffic;
 use ib_verdict::judge::judge;
 use std::alloc::Global;
 

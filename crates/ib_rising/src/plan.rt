@@ -4,7 +4,7 @@ use ib_channels::channels::{Channel, Channels};
 use ib_channels::demand::{Demand, Target};
 use ib_channels::order::Order;
 use ib_channels::ways::{FAR, Ways};
-use ib_routes::traffic::Traffic;
+use ib_net::traffic::Traffic;
 
 /// What routes are laid for: the channels of a fabric and its end ports, the order along which they rise, and the
 /// traffic that is to arrive.

@@ -12,8 +12,8 @@ use Rattle.ib_net.specs.Fabric.{FabricOf, owner_of, start_of}
 use Rattle.ib_routes.specs.declared.audience.Audience.{Audience}
 use Rattle.ib_routes.specs.declared.audience.Audience.TheVariants as to
 use Rattle.ib_routes.specs.declared.audience.Targets.{Targets}
-use Rattle.ib_routes.specs.declared.traffic.Traffic.{Traffic}
-use Rattle.ib_routes.specs.declared.traffic.Traffic.TheVariants.{Hosts, Lids, Managed, All, Rows}
+use Rattle.ib_net.specs.declared.traffic.Traffic.{Traffic}
+use Rattle.ib_net.specs.declared.traffic.Traffic.TheVariants.{Hosts, Lids, Managed, All, Rows}
 use Rattle.ib_routes.specs.Audience.{AreTargets, IsAudience, IsHeard, IsHeardFrom, IsPutFor}
 use Rattle.ib_routes.specs.Routes.{IsCabled, IsSource, IsTarget, MayWrite, Sends}
 use Rattle.ib_routes.proofs.StartLemmas.{same_some, source_low, source_starts}

@@ -8,7 +8,7 @@ use Rattle.channel_graph.specs.Graph.{GraphOf, LeadsTo}
 use Rattle.ib_net.specs.declared.node.Side.{Side}
 use Rattle.ib_net.specs.declared.node.Side.TheVariants.{Bare, To, End}
 use Rattle.ib_net.specs.declared.node.EndPort.{EndPort}
-use Rattle.ib_routes.specs.declared.traffic.Traffic.{Traffic}
+use Rattle.ib_net.specs.declared.traffic.Traffic.{Traffic}
 use Rattle.ib_routes.specs.declared.hop.Hop.TheVariants.{On}
 use Rattle.ib_net.specs.Fabric.{FabricOf, IsFabric, LeadsWithin, switch_count, side_of, owner_of}
 use Rattle.ib_cells.specs.Cells.{TablesOf}

@@ -3,7 +3,7 @@ use Rattle.std.proofs.Common.{◌≡◌, ◌∙◌, subst, refl, ℕ, ◌+◌, �
 use Rattle.std.proofs.lemmas.Bool.{cases_lt}
 use Rattle.channel_graph.specs.Graph.{GraphOf}
 use Rattle.ib_net.specs.declared.node.EndPort.{EndPort}
-use Rattle.ib_routes.specs.declared.traffic.Traffic.{Traffic}
+use Rattle.ib_net.specs.declared.traffic.Traffic.{Traffic}
 use Rattle.ib_net.specs.Fabric.{FabricOf}
 use Rattle.ib_cells.specs.Cells.{TablesOf}
 use Rattle.ib_routes.specs.Routes.{IsStopped, Sends}

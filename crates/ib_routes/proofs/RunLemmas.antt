@@ -2,7 +2,7 @@
 use Rattle.std.proofs.Common.{◌≡◌, ◌∙◌, sym, ap, subst, refl, ℕ, zero, suc, ◌+◌, ◌-◌, ◌*◌, ◌<◌, Bool, true, false, cond, List, arith, length, get_or, inl, inr}
 use Rattle.channel_graph.specs.Graph.{GraphOf}
 use Rattle.ib_net.specs.declared.node.EndPort.{EndPort}
-use Rattle.ib_routes.specs.declared.traffic.Traffic.{Traffic}
+use Rattle.ib_net.specs.declared.traffic.Traffic.{Traffic}
 use Rattle.ib_net.specs.Fabric.{FabricOf, switch_count}
 use Rattle.ib_cells.specs.Cells.{TablesOf}
 use Rattle.ib_routes.specs.Routes.{ComesBy, ComesTo}

@@ -15,7 +15,7 @@ use Rattle.ib_routes.specs.declared.audience.Audience.TheVariants.{Hosts, Everyo
 use Rattle.ib_routes.specs.declared.audience.Targets.{Targets}
 use Rattle.ib_routes.specs.declared.sender.Senders.{Senders}
 use Rattle.ib_routes.specs.declared.sender.Senders.TheVariants.{Quiet, One, Several}
-use Rattle.ib_routes.specs.declared.traffic.Traffic.{Traffic}
+use Rattle.ib_net.specs.declared.traffic.Traffic.{Traffic}
 use Rattle.ib_routes.specs.Audience.{AreTargets}
 use Rattle.ib_routes.specs.Routes.{Sends}
 use Rattle.ib_routes.specs.Starts.{AreAllSendersBelow, AreSendersOf, IsAmong, IsHeardAt, IsStart}

@@ -6,8 +6,8 @@ use Rattle.ib_cells.specs.Cells.{TablesOf}
 use Rattle.ib_net.specs.declared.node.Spot.{Spot}
 use Rattle.ib_net.specs.declared.node.EndPort.{EndPort}
 use Rattle.ib_net.specs.declared.node.EndPort.TheVariants.{Host, Switch}
-use Rattle.ib_routes.specs.declared.traffic.Traffic.{Traffic}
-use Rattle.ib_routes.specs.declared.traffic.Traffic.TheVariants.{Hosts, Lids, Managed, All, Rows}
+use Rattle.ib_net.specs.declared.traffic.Traffic.{Traffic}
+use Rattle.ib_net.specs.declared.traffic.Traffic.TheVariants.{Hosts, Lids, Managed, All, Rows}
 use Rattle.ib_net.specs.Fabric.{FabricOf, IsFabric, switch_count, cable_of, start_of, switch_at}
 use Rattle.ib_routes.specs.Routes.{IsSource, Sends}
 

@@ -9,9 +9,9 @@ use Rattle.ib_net.proofs.FabricLemmas.{host_guids, switch_guids}
 use Rattle.ib_cells.specs.Cells.{TablesOf}
 use Rattle.ib_routes.specs.declared.hop.Cause.{Cause}
 use Rattle.ib_routes.specs.declared.hop.Outcome.TheVariants.{Arrives, Stops, Loops}
-use Rattle.ib_routes.specs.declared.traffic.Traffic.{Traffic}
+use Rattle.ib_net.specs.declared.traffic.Traffic.{Traffic}
 use Rattle.ib_routes.specs.declared.audience.Audience.{Audience}
-use Rattle.ib_routes.specs.declared.traffic.Traffic.TheVariants.{All}
+use Rattle.ib_net.specs.declared.traffic.Traffic.TheVariants.{All}
 use Rattle.ib_routes.specs.Audience.{IsAudience, IsHeard}
 use Rattle.ib_routes.specs.Routes.{Channel, ComesBy, EndsAs, Takes}
 use Rattle.ib_routes.specs.Found.{IsLeastWitness}

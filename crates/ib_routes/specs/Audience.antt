@@ -4,8 +4,8 @@ use Rattle.std.specs.Int.{bit_at}
 use Rattle.ib_net.specs.declared.node.EndPort.{EndPort}
 use Rattle.ib_net.specs.Fabric.{FabricOf, owner_of}
 use Rattle.ib_cells.specs.Cells.{TablesOf}
-use Rattle.ib_routes.specs.declared.traffic.Traffic.{Traffic}
-use Rattle.ib_routes.specs.declared.traffic.Traffic.TheVariants.{Lids, All}
+use Rattle.ib_net.specs.declared.traffic.Traffic.{Traffic}
+use Rattle.ib_net.specs.declared.traffic.Traffic.TheVariants.{Lids, All}
 use Rattle.ib_routes.specs.declared.audience.Audience.{Audience}
 use Rattle.ib_routes.specs.declared.audience.Audience.TheVariants.{Nobody, Hosts, Everyone}
 use Rattle.ib_routes.specs.declared.audience.Targets.{Targets}

@@ -4,8 +4,8 @@ use Rattle.ib_net.specs.declared.node.Side.{Side}
 use Rattle.ib_net.specs.declared.node.Side.TheVariants.{Bare, To, End}
 use Rattle.ib_net.specs.declared.node.EndPort.{EndPort}
 use Rattle.ib_net.specs.declared.node.EndPort.TheVariants.{Host, Switch}
-use Rattle.ib_routes.specs.declared.traffic.Traffic.{Traffic}
-use Rattle.ib_routes.specs.declared.traffic.Traffic.TheVariants.{Hosts, Lids, Managed, All, Rows}
+use Rattle.ib_net.specs.declared.traffic.Traffic.{Traffic}
+use Rattle.ib_net.specs.declared.traffic.Traffic.TheVariants.{Hosts, Lids, Managed, All, Rows}
 use Rattle.ib_routes.specs.declared.hop.Hop.{Hop}
 use Rattle.ib_routes.specs.declared.hop.Hop.TheVariants.{On, Arrive, Stop}
 use Rattle.ib_routes.specs.declared.hop.Outcome.{Outcome}

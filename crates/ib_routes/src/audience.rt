@@ -7,10 +7,10 @@ ghost use Rattle.ib_net.specs.declared.node.EndPort.TheVariants as port;
 ghost use Rattle.ib_cells.specs.Cells.{TablesOf, tables_of};
 ghost use Rattle.ib_routes.specs.Audience.{AreTargets, IsAudience, IsHeard, IsHeardFrom, IsPutFor};
 ghost use Rattle.ib_routes.specs.Routes.{IsSource, Sends};
-ghost use Rattle.ib_routes.specs.declared.traffic.Traffic.{Traffic};
+ghost use Rattle.ib_net.specs.declared.traffic.Traffic.{Traffic};
 
 use crate::start::{begins_at, is_cabled, is_owner};
-use crate::traffic::Traffic;
+use ib_net::traffic::Traffic;
 use crate::word::with_bit;
 use ib_cells::cells::Cells;
 use ib_net::fabric::Fabric;

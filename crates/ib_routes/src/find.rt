@@ -12,7 +12,7 @@ ghost use Rattle.ib_routes.specs.Waves.{HasBit, IsGraphOf, IsWaved};
 
 use crate::link::find_links;
 use crate::sender::{Senders, find_senders, put_starts};
-use crate::traffic::Traffic;
+use ib_net::traffic::Traffic;
 use crate::wave::run;
 use common_values::memory::OutOfMemory;
 use channel_graph::graph::Graph;

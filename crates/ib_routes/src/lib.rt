@@ -14,7 +14,6 @@ pub mod link;
 pub mod sender;
 pub mod start;
 pub mod trace;
-pub mod traffic;
 mod wave;
 pub mod witness;
 pub mod word;

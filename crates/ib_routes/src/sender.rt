@@ -11,12 +11,12 @@ ghost use Rattle.ib_routes.specs.Starts.{AreAllSenders, AreAllSendersBelow, AreS
 ghost use Rattle.ib_routes.specs.Waves.{AreStarts};
 ghost use Rattle.ib_routes.specs.declared.audience.Audience.{Audience};
 ghost use Rattle.ib_routes.specs.declared.audience.Audience.TheVariants as audience;
-ghost use Rattle.ib_routes.specs.declared.traffic.Traffic.{Traffic};
+ghost use Rattle.ib_net.specs.declared.traffic.Traffic.{Traffic};
 ghost use Rattle.ib_net.specs.declared.node.EndPort.{EndPort};
 
 use crate::audience::{Targets, targets_of};
 use crate::start::is_owner;
-use crate::traffic::Traffic;
+use ib_net::traffic::Traffic;
 use crate::word::{fresh_of, with_bit};
 use common_values::memory::OutOfMemory;
 use ib_cells::cells::Cells;

@@ -4,9 +4,9 @@ ghost use Rattle.std.specs.Prelude.{◌≡◌, ◌<◌, ◌↔◌, Some, IfSome,
 ghost use Rattle.ib_net.specs.Fabric.{owner_of, start_of, switch_count};
 ghost use Rattle.ib_net.specs.declared.node.EndPort.{EndPort};
 ghost use Rattle.ib_routes.specs.Routes.{IsCabled, IsSource, IsTarget};
-ghost use Rattle.ib_routes.specs.declared.traffic.Traffic.{Traffic};
+ghost use Rattle.ib_net.specs.declared.traffic.Traffic.{Traffic};
 
-use crate::traffic::Traffic;
+use ib_net::traffic::Traffic;
 use ib_net::fabric::Fabric;
 use ib_net::node::EndPort;
 

@@ -2,7 +2,7 @@
 
 ghost use Rattle.std.specs.Prelude.{◌≡◌, ◌<◌, ◌⊎◌, ◌↔◌, ℕ, length, MatchOption};
 ghost use Rattle.std.specs.Int.{bit_at};
-ghost use Rattle.ib_routes.specs.declared.traffic.Traffic.{Traffic};
+ghost use Rattle.ib_net.specs.declared.traffic.Traffic.{Traffic};
 ghost use Rattle.ib_cells.specs.Cells.{tables_of};
 ghost use Rattle.ib_routes.specs.Links.{AreLinks};
 ghost use Rattle.ib_routes.specs.Waves.{AreStarts, HasBit, IsFurther, IsGraphOf, IsIdle, IsTurned, IsWaved, Taken};

@@ -14,7 +14,7 @@ ghost use Rattle.ib_routes.specs.Witness.{IsLesser, IsLesserOf, IsLeastAt, NoSou
 use crate::audience::{Audience, audience_of, sender_start};
 use crate::hop::{Hop, Outcome, hop_at};
 use crate::trace::{Mark, Target, trace};
-use crate::traffic::Traffic;
+use ib_net::traffic::Traffic;
 use common_values::memory::OutOfMemory;
 use ib_cells::cells::Cells;
 use ib_net::fabric::Fabric;

@@ -10,7 +10,7 @@ use Rattle.ib_net.specs.declared.node.Spot.{Spot}
 use Rattle.ib_net.specs.Fabric.{FabricOf, IsFabric, cable_of, owner_of, side_of, start_of, switch_at, switch_count}
 use Rattle.ib_routes.specs.declared.hop.Hop.{Hop}
 use Rattle.ib_routes.specs.declared.hop.Hop.TheVariants.{Arrive}
-use Rattle.ib_routes.specs.declared.traffic.Traffic.{Traffic}
+use Rattle.ib_net.specs.declared.traffic.Traffic.{Traffic}
 use Rattle.ib_routes.specs.Routes.{ComesBy, end_if, hop, hop_by, hop_over, ends_at_host, ends_at_switch}
 use Rattle.ib_routes.proofs.ChannelLemmas.{hop_within, on_link}
 use Rattle.ib_routes.proofs.StartLemmas.{start_low}

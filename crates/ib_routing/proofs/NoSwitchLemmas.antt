@@ -4,7 +4,7 @@ use Rattle.channel_graph.specs.Cycles.{HasNoCycle, IsCycle}
 use Rattle.ib_cells.specs.Cells.{TablesOf}
 use Rattle.ib_net.specs.declared.node.EndPort.{EndPort}
 use Rattle.ib_net.specs.Fabric.{FabricOf, IsFabric, switch_count}
-use Rattle.ib_routes.specs.declared.traffic.Traffic.{Traffic}
+use Rattle.ib_net.specs.declared.traffic.Traffic.{Traffic}
 use Rattle.ib_routes.specs.Routes.{Channel, DependsOn, IsSource, Sends}
 use Rattle.ib_verdict.specs.Verdict.{AllArrive}
 use Rattle.ib_routing.proofs.ApartLemmas.{source_at}

@@ -5,7 +5,7 @@ use Rattle.channel_graph.specs.Cycles.{Walk}
 use Rattle.ib_net.specs.declared.node.EndPort.{EndPort}
 use Rattle.ib_net.specs.declared.node.Side.TheVariants.{To}
 use Rattle.ib_net.specs.Fabric.{FabricOf, side_of, start_of, switch_count}
-use Rattle.ib_routes.specs.declared.traffic.Traffic.{Traffic}
+use Rattle.ib_net.specs.declared.traffic.Traffic.{Traffic}
 use Rattle.ib_routes.specs.Routes.{SendsToOwner}
 
 -- a port of a switch leads to another switch

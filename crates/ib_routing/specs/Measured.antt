@@ -7,7 +7,7 @@ use Rattle.ib_laying.specs.declared.measures.Measures.{Measures}
 use Rattle.ib_net.specs.Fabric.{FabricOf}
 use Rattle.ib_routes.specs.Counting.{IsCountOf}
 use Rattle.ib_routes.specs.declared.hop.Outcome.TheVariants.{Arrives}
-use Rattle.ib_routes.specs.declared.traffic.Traffic.TheVariants.{Hosts}
+use Rattle.ib_net.specs.declared.traffic.Traffic.TheVariants.{Hosts}
 
 -- a route between end ports of adapters and routers arrives, and goes over so many links between switches: it goes
 -- through one switch more

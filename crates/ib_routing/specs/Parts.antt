@@ -5,7 +5,7 @@ use Rattle.std.specs.Prelude.{slice_index, if◌then◌else◌}
 use Rattle.ib_net.specs.declared.node.EndPort.{EndPort}
 use Rattle.ib_net.specs.declared.node.Side.TheVariants.{To}
 use Rattle.ib_net.specs.Fabric.{FabricOf, owner_of, side_of, start_of, switch_count}
-use Rattle.ib_routes.specs.declared.traffic.Traffic.{Traffic}
+use Rattle.ib_net.specs.declared.traffic.Traffic.{Traffic}
 use Rattle.ib_routes.specs.Routes.{IsSource, IsTarget}
 use Rattle.ib_routing.specs.Joined.{AreEndsJoined, AreJoined}
 

@@ -8,7 +8,7 @@ use Rattle.calling.specs.Ended.{IsLineTold}
 use Rattle.ib_net.specs.declared.node.EndPort.{EndPort}
 use Rattle.ib_net.specs.Fabric.{FabricOf, guid_of, switch_count}
 use Rattle.ib_cells.specs.Cells.{TablesOf}
-use Rattle.ib_routes.specs.declared.traffic.Traffic.{Traffic}
+use Rattle.ib_net.specs.declared.traffic.Traffic.{Traffic}
 use Rattle.ib_verdict.specs.Verdict.{Passes}
 use Rattle.ib_laying.specs.declared.measures.Measures.{Measures}
 use Rattle.ib_tables_text.specs.Texts.{IsTextOf, guid_word}

@@ -4,7 +4,7 @@ ghost use Rattle.std.specs.Prelude.{◌≡◌, ◌↔◌, ℕ, IfOk, IsTrue, Mat
 ghost use Rattle.ib_net.specs.declared.node.EndPort.{EndPort};
 ghost use Rattle.ib_net.specs.declared.node.EndPort.TheVariants as port;
 ghost use Rattle.ib_net.specs.Fabric.{IsFabric};
-ghost use Rattle.ib_routes.specs.declared.traffic.Traffic.TheVariants.{Managed};
+ghost use Rattle.ib_net.specs.declared.traffic.Traffic.TheVariants.{Managed};
 ghost use Rattle.ib_routing.specs.Joined.{AllJoined, IsApart};
 ghost use Rattle.ib_routing.specs.Parts.{AllJoinedBy, AreLabels, IsApartBy, IsOtherSource, IsOtherTarget, label_of};
 
@@ -13,7 +13,7 @@ use common_values::memory::OutOfMemory;
 use ib_net::fabric::Fabric;
 use ib_net::node::EndPort;
 use ib_routes::start::{begins_at, is_source, is_target};
-use ib_routes::traffic::Traffic;
+use ib_net::traffic::Traffic;
 use std::alloc::Global;
 
 /// An end port, and a LID to which it sends.

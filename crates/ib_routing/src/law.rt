@@ -4,7 +4,7 @@ ghost use Rattle.std.specs.Prelude.{ℕ, List};
 ghost use Rattle.ib_cells.specs.Cells.{TablesOf};
 ghost use Rattle.ib_fabric.specs.Fabrics.{IsFabricText};
 ghost use Rattle.ib_net.specs.Fabric.{FabricOf};
-ghost use Rattle.ib_routes.specs.declared.traffic.Traffic.{Traffic};
+ghost use Rattle.ib_net.specs.declared.traffic.Traffic.{Traffic};
 ghost use Rattle.ib_routing.specs.Joined.{AllJoined};
 ghost use Rattle.ib_verdict.specs.Verdict.{AllArrive};
 

@@ -10,7 +10,7 @@ use ib_cells::cells::Cells;
 use ib_counts::count::count_routes;
 use ib_laying::measures::Measures;
 use ib_net::fabric::Fabric;
-use ib_routes::traffic::Traffic;
+use ib_net::traffic::Traffic;
 use std::alloc::Global;
 
 /// How good tables are: how many routes between end ports of adapters and routers arrive, and how long the longest is, are

@@ -5,7 +5,7 @@ use Rattle.ib_net.specs.declared.node.EndPort.{EndPort}
 use Rattle.ib_net.specs.Fabric.{FabricOf, start_of}
 use Rattle.ib_routes.specs.declared.hop.Hop.{Hop}
 use Rattle.ib_routes.specs.declared.hop.Hop.TheVariants.{On, Arrive, Stop}
-use Rattle.ib_routes.specs.declared.traffic.Traffic.{Traffic}
+use Rattle.ib_net.specs.declared.traffic.Traffic.{Traffic}
 use Rattle.ib_routes.specs.Routes.{Channel, ComesBy, ComesTo, DependsOn, IsStopped, IsStop, Sends, hop}
 use Rattle.ib_routes.proofs.StartLemmas.{sender_is, source_starts}
 use Rattle.ib_verdict.specs.Verdict.{ArrivesBy}

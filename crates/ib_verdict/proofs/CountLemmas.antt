@@ -5,7 +5,7 @@ use Rattle.std.proofs.Math.Nat.{div-add-mod}
 use Rattle.channel_graph.specs.Graph.{GraphOf, HasNoNext, IsNext, LeadsTo}
 use Rattle.ib_cells.specs.Cells.{TablesOf}
 use Rattle.ib_net.specs.Fabric.{FabricOf}
-use Rattle.ib_routes.specs.declared.traffic.Traffic.{Traffic}
+use Rattle.ib_net.specs.declared.traffic.Traffic.{Traffic}
 use Rattle.ib_routes.specs.Counting.{IsCountOf}
 use Rattle.ib_routes.specs.Finding.{AreDependencies}
 use Rattle.ib_routes.specs.Routes.{DependsOn}

@@ -5,7 +5,7 @@ use Rattle.ib_cells.specs.Cells.{TablesOf}
 use Rattle.ib_net.specs.Fabric.{FabricOf}
 use Rattle.ib_routes.specs.declared.hop.Hop.{Hop}
 use Rattle.ib_routes.specs.declared.hop.Hop.TheVariants.{On, Arrive}
-use Rattle.ib_routes.specs.declared.traffic.Traffic.{Traffic}
+use Rattle.ib_net.specs.declared.traffic.Traffic.{Traffic}
 use Rattle.ib_routes.specs.Found.{SomeIsStopped}
 use Rattle.ib_routes.specs.Routes.{ComesBy, IsStop, WalksBy, hop}
 use Rattle.ib_verdict.specs.Verdict.{AllArrive}

@@ -15,7 +15,7 @@ use Rattle.ib_net.specs.declared.node.Side.{Side}
 use Rattle.ib_net.specs.declared.node.Side.TheVariants.{Bare, To, End}
 use Rattle.ib_net.specs.declared.node.Spot.{Spot}
 use Rattle.ib_net.specs.Fabric.{FabricOf, IsFabric, side_of}
-use Rattle.ib_routes.specs.declared.traffic.Traffic.{Traffic}
+use Rattle.ib_net.specs.declared.traffic.Traffic.{Traffic}
 use Rattle.ib_routes.specs.Found.{IsChannel, channel_of, number}
 use Rattle.ib_routes.specs.Finding.{AreDependencies}
 use Rattle.ib_routes.specs.Routes.{Channel, DependsOn}

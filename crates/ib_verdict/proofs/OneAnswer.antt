@@ -11,7 +11,7 @@ use Rattle.ib_net.specs.declared.node.Side.TheVariants.{Bare, To, End}
 use Rattle.ib_net.specs.declared.node.Spot.{Spot}
 use Rattle.ib_net.specs.declared.node.EndPort.{EndPort}
 use Rattle.ib_net.specs.Fabric.{FabricOf, guid_of, side_of}
-use Rattle.ib_routes.specs.declared.traffic.Traffic.{Traffic}
+use Rattle.ib_net.specs.declared.traffic.Traffic.{Traffic}
 use Rattle.ib_routes.specs.Found.{IsChannel, IsLeastWitness, channel_of}
 use Rattle.ib_routes.specs.Routes.{Channel, DependsOn, Takes}
 use Rattle.ib_verdict.specs.Verdict.{HasRanks, IsLeastLoop, channel_cmp, rank_in}

@@ -7,7 +7,7 @@ use Rattle.ib_net.specs.declared.node.EndPort.{EndPort}
 use Rattle.ib_net.specs.Fabric.{FabricOf}
 use Rattle.ib_routes.specs.declared.hop.Hop.{Hop}
 use Rattle.ib_routes.specs.declared.hop.Hop.TheVariants.{On, Arrive, Stop}
-use Rattle.ib_routes.specs.declared.traffic.Traffic.{Traffic}
+use Rattle.ib_net.specs.declared.traffic.Traffic.{Traffic}
 use Rattle.ib_routes.specs.Routes.{Channel, ComesTo, DependsOn, IsStopped, IsStop, hop}
 use Rattle.ib_verdict.specs.Packets.{AllStand, ComesFree, FirstCanGo, Leaves, Packet, QueuesOf, StandsIn, WaitsFor}
 

@@ -3,7 +3,7 @@ use Rattle.std.proofs.Common.{◌≡◌, ◌↔◌, Bool, false}
 use Rattle.std.specs.Prelude.{IsTrue}
 use Rattle.ib_cells.specs.Cells.{TablesOf}
 use Rattle.ib_net.specs.Fabric.{FabricOf}
-use Rattle.ib_routes.specs.declared.traffic.Traffic.{Traffic}
+use Rattle.ib_net.specs.declared.traffic.Traffic.{Traffic}
 use Rattle.ib_routes.specs.Found.{SomeIsStopped}
 use Rattle.ib_verdict.specs.declared.verdict.Verdict.{Verdict}
 use Rattle.ib_verdict.specs.declared.verdict.Verdict.TheVariants.{Ranks, Cycle}

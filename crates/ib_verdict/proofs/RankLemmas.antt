@@ -5,7 +5,7 @@ use Rattle.std.proofs.lemmas.Option.{get_or_from_slice_get}
 use Rattle.ib_cells.specs.Cells.{TablesOf}
 use Rattle.ib_net.specs.declared.node.Side.{Side}
 use Rattle.ib_net.specs.Fabric.{FabricOf}
-use Rattle.ib_routes.specs.declared.traffic.Traffic.{Traffic}
+use Rattle.ib_net.specs.declared.traffic.Traffic.{Traffic}
 use Rattle.ib_routes.specs.Found.{IsChannel, channel_of, number}
 use Rattle.ib_routes.specs.Routes.{Channel, DependsOn}
 use Rattle.ib_routes.proofs.ChannelLemmas.{first_is, second_is}

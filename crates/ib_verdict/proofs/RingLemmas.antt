@@ -6,7 +6,7 @@ use Rattle.ib_cells.specs.Cells.{TablesOf}
 use Rattle.ib_net.specs.Fabric.{FabricOf}
 use Rattle.ib_routes.specs.declared.hop.Hop.{Hop}
 use Rattle.ib_routes.specs.declared.hop.Hop.TheVariants.{On, Arrive, Stop}
-use Rattle.ib_routes.specs.declared.traffic.Traffic.{Traffic}
+use Rattle.ib_net.specs.declared.traffic.Traffic.{Traffic}
 use Rattle.ib_routes.specs.Routes.{Channel, DependsOn, hop}
 use Rattle.ib_verdict.specs.Packets.{AllFit, AllStand, CanGo, FirstCanGo, Leaves, Packet, QueuesOf, StandsIn}
 

@@ -11,7 +11,7 @@ use Rattle.channel_graph.specs.Graph as graph
 use Rattle.ib_cells.specs.Cells.{TablesOf}
 use Rattle.ib_net.specs.declared.node.Spot.{Spot}
 use Rattle.ib_net.specs.Fabric.{FabricOf, IsFabric, switch_count}
-use Rattle.ib_routes.specs.declared.traffic.Traffic.{Traffic}
+use Rattle.ib_net.specs.declared.traffic.Traffic.{Traffic}
 use Rattle.ib_routes.specs.declared.witness.Witness.{Witness}
 use Rattle.ib_routes.specs.Found.{IsChannel, IsLeastWitness, SomeIsStopped, channel_of, number}
 use Rattle.ib_routes.specs.Finding.{AreDependencies}

@@ -2,7 +2,7 @@
 use Rattle.std.specs.Prelude.{◌≡◌, ◌↔◌, false, IsTrue}
 use Rattle.ib_cells.specs.Cells.{TablesOf}
 use Rattle.ib_net.specs.Fabric.{FabricOf}
-use Rattle.ib_routes.specs.declared.traffic.Traffic.{Traffic}
+use Rattle.ib_net.specs.declared.traffic.Traffic.{Traffic}
 use Rattle.ib_routes.specs.Found.{SomeIsStopped}
 use Rattle.ib_verdict.specs.declared.judge.Judgement.{Judgement}
 use Rattle.ib_verdict.specs.Count.{IsDependencyCount}

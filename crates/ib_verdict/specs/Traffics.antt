@@ -1,7 +1,7 @@
 -- Traffics by their routes.
 use Rattle.std.specs.Prelude.{◌≤◌, ℕ}
-use Rattle.ib_routes.specs.declared.traffic.Traffic.{Traffic}
-use Rattle.ib_routes.specs.declared.traffic.Traffic.TheVariants.{Hosts, Lids, Managed, All, Rows}
+use Rattle.ib_net.specs.declared.traffic.Traffic.{Traffic}
+use Rattle.ib_net.specs.declared.traffic.Traffic.TheVariants.{Hosts, Lids, Managed, All, Rows}
 
 -- the place of a traffic, from that of the fewest routes on
 abbrev pub place_of : Traffic → ℕ

@@ -10,7 +10,7 @@ use Rattle.ib_net.specs.declared.node.Spot.{Spot}
 use Rattle.ib_net.specs.declared.node.Side.TheVariants.{Bare, To, End}
 use Rattle.ib_net.specs.Fabric.{FabricOf, side_of, start_of}
 use Rattle.ib_routes.specs.declared.hop.Hop.TheVariants.{Arrive}
-use Rattle.ib_routes.specs.declared.traffic.Traffic.{Traffic}
+use Rattle.ib_net.specs.declared.traffic.Traffic.{Traffic}
 use Rattle.ib_routes.specs.Found.{IsChannel, IsLeastWitness, channel_of, number}
 use Rattle.ib_routes.specs.Routes.{Channel, ComesBy, DependsOn, Sends, hop}
 use Rattle.ib_verdict.specs.declared.verdict.LoopChannel.{LoopChannel}

@@ -5,7 +5,7 @@ use Rattle.channel_graph.specs.Cycles.{HasNoCycle}
 use Rattle.channel_graph.specs.Graph.{value_at}
 use Rattle.ib_cells.specs.Cells.{TablesOf}
 use Rattle.ib_net.specs.Fabric.{FabricOf}
-use Rattle.ib_routes.specs.declared.traffic.Traffic.{Traffic}
+use Rattle.ib_net.specs.declared.traffic.Traffic.{Traffic}
 use Rattle.ib_routes.specs.Found.{IsLeastWitness, SomeIsStopped, channel_of, number}
 use Rattle.ib_routes.specs.Routes.{Channel, DependsOn}
 use Rattle.ib_verdict.specs.declared.verify.Rise.{Rise}

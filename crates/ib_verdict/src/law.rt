@@ -5,7 +5,7 @@ ghost use Rattle.channel_graph.specs.Cycles.{HasNoCycle, IsCycle};
 ghost use Rattle.ib_cells.specs.Cells.{TablesOf};
 ghost use Rattle.ib_net.specs.declared.node.EndPort.{EndPort};
 ghost use Rattle.ib_net.specs.Fabric.{FabricOf, guid_of};
-ghost use Rattle.ib_routes.specs.declared.traffic.Traffic.{Traffic};
+ghost use Rattle.ib_net.specs.declared.traffic.Traffic.{Traffic};
 ghost use Rattle.ib_routes.specs.Found.{IsLeastWitness, SomeIsStopped};
 ghost use Rattle.ib_routes.specs.declared.hop.Hop.TheVariants.{Arrive};
 ghost use Rattle.ib_routes.specs.Routes.{Channel, DependsOn, IsStopped, Sends, hop};

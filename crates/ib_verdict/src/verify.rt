@@ -15,7 +15,7 @@ use ib_cells::cells::Cells;
 use ib_net::fabric::Fabric;
 use ib_net::node::Spot;
 use ib_routes::find::find_dependencies;
-use ib_routes::traffic::Traffic;
+use ib_net::traffic::Traffic;
 use ib_routes::witness::Witness;
 use std::alloc::Global;
 

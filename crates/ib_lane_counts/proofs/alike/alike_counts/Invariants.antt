@@ -5,7 +5,7 @@ use Rattle.ib_lane_counts.specs.Alike.{IsBelow}
 use Rattle.ib_lane_counts.specs.Keep.{IsKept}
 use Rattle.ib_lane_counts.specs.LaneCounts.{AreCountsOf, lane_sum_of}
 use Rattle.ib_net.specs.Fabric.{FabricOf, IsFabric}
-use Rattle.ib_routes.specs.declared.traffic.Traffic.{Traffic}
+use Rattle.ib_net.specs.declared.traffic.Traffic.{Traffic}
 use Rattle.ib_rows.specs.Lanes.{LanesOf}
 use Rattle.ib_lane_counts.proofs.alike.alike_counts.Given as goal
 

@@ -1,6 +1,6 @@
 use Rattle.std.proofs.lemmas.Bool.{iff_false}
 use Rattle.ib_lane_counts.proofs.PlaceLemmas.{begins_of, heard_is}
-use Rattle.ib_routes.specs.declared.traffic.Traffic.TheVariants.{All}
+use Rattle.ib_net.specs.declared.traffic.Traffic.TheVariants.{All}
 use Rattle.ib_lane_counts.proofs.source.sender_begin.Goals as goal
 
 pub returns-then-not-is_heard-clause-begin : goal.returns-then-not-is_heard-clause-begin

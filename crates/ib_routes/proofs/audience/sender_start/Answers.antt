@@ -1,5 +1,5 @@
 use Rattle.std.proofs.lemmas.Bool.{iff_false}
-use Rattle.ib_routes.specs.declared.traffic.Traffic.TheVariants.{All}
+use Rattle.ib_net.specs.declared.traffic.Traffic.TheVariants.{All}
 use Rattle.ib_routes.proofs.AudienceLemmas.{heard_is, starts_of}
 use Rattle.ib_routes.proofs.audience.sender_start.Goals as goal
 

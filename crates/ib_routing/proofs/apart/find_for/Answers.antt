@@ -1,6 +1,6 @@
 use Rattle.std.proofs.Common.{subst, sym}
 use Rattle.std.specs.Prelude.{MatchOption}
-use Rattle.ib_routes.specs.declared.traffic.Traffic.{Traffic}
+use Rattle.ib_net.specs.declared.traffic.Traffic.{Traffic}
 use Rattle.ib_routing.specs.Joined.{AllJoined, IsApart}
 use Rattle.ib_routing.proofs.ApartLemmas.{apart_by_one, joined_by_one, match_option}
 use Rattle.ib_routing.proofs.apart.find_for.Goals as goal

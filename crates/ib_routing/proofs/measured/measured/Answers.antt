@@ -2,7 +2,7 @@ use Rattle.std.proofs.Common.{◌≡◌, ◌+◌, ℕ, arith, subst}
 use Rattle.ib_cells.specs.Cells.{tables_of}
 use Rattle.ib_counts.specs.Counts.{IsOf, IsOneThat}
 use Rattle.ib_routes.specs.declared.hop.Outcome.TheVariants.{Arrives}
-use Rattle.ib_routes.specs.declared.traffic.Traffic.TheVariants.{Hosts}
+use Rattle.ib_net.specs.declared.traffic.Traffic.TheVariants.{Hosts}
 use Rattle.ib_routing.proofs.measured.measured.Goals as goal
 
 pub returns : goal.returns

@@ -3,7 +3,7 @@ use Rattle.std.proofs.lemmas.Result.{IfOk-weaker}
 use Rattle.text_lines.specs.declared.stop.Refusal.{Refusal}
 use Rattle.text_lines.specs.Stops.{IsRefusalBy}
 use Rattle.ib_cells.specs.Cells.{tables_of}
-use Rattle.ib_routes.specs.declared.traffic.Traffic.{Traffic}
+use Rattle.ib_net.specs.declared.traffic.Traffic.{Traffic}
 use Rattle.ib_words.specs.declared.ranks_cause.RanksCause.{RanksCause}
 use Rattle.ib_ranks.specs.Ranks.{IsRanksFault, IsRanksText}
 use Rattle.ib_answering.specs.declared.command.Given.{Given}

@@ -5,7 +5,7 @@ use Rattle.ib_cells.specs.Cells.{TablesOf}
 use Rattle.ib_net.specs.declared.node.EndPort.{EndPort}
 use Rattle.ib_net.specs.Fabric.{FabricOf, owner_of}
 use Rattle.ib_routes.specs.declared.audience.Targets.{Targets}
-use Rattle.ib_routes.specs.declared.traffic.Traffic.{Traffic}
+use Rattle.ib_net.specs.declared.traffic.Traffic.{Traffic}
 use Rattle.ib_routes.specs.Audience.{AreTargets}
 use Rattle.ib_routes.specs.Routes.{IsSource, Sends}
 use Rattle.ib_routes.proofs.AudienceLemmas.{sent_by_host, sent_by_switch}
