@@ -5,8 +5,8 @@ ghost use Rattle.an_base.specs.declared.limits.TheConstants.{MOST_LEVEL};
 
 use crate::entry::Entries;
 use crate::life::Life;
-use common_values::memory::OutOfMemory;
 use crate::numbers::Numbers;
+use common_values::memory::OutOfMemory;
 use std::alloc::Global;
 use std::marker::Model;
 

@@ -5,8 +5,8 @@ ghost use Rattle.an_base.specs.declared.limits.TheConstants.{MOST_SWITCHES};
 
 use crate::life::Life;
 use crate::links::Links;
-use common_values::memory::OutOfMemory;
 use crate::position::Position;
+use common_values::memory::OutOfMemory;
 use std::alloc::Global;
 use std::cmp::Ordering;
 use std::marker::Model;

@@ -1,8 +1,8 @@
 //! What can happen to a network. Scripts command some of these events, and a journal tells all of them.
 
-use common_values::items::Items;
 use crate::place::Place;
 use crate::port::Port;
+use common_values::items::Items;
 
 /// One event of a network. A host is named by its place in the script, from 0; a port is one of a
 /// switch, 1 to 12.

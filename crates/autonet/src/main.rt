@@ -3,10 +3,10 @@
 //! It has no contract of its own: what it prints, and its status, are those of the call.
 #![tactic(auto)]
 
-use common_values::memory::OutOfMemory;
-use answering::status::{Status, finish};
-use calling::words::words_of_call;
+use autonet_call::status::{Status, finish};
 use commands::top::autonet;
+use common_call::words::words_of_call;
+use common_values::memory::OutOfMemory;
 use outside::standard::{StdSink, StdSource};
 use std::process::ExitCode;
 use switch_threads::Open;

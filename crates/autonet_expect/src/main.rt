@@ -3,11 +3,11 @@
 //! It has no contract of its own: what it prints, and its status, are those of the call.
 #![tactic(auto)]
 
+use autonet_call::expect::autonet_expect;
+use autonet_call::status::{Status, finish};
+use autonet_call::words::is_word;
+use common_call::words::words_of_call;
 use common_values::memory::OutOfMemory;
-use answering::expect::autonet_expect;
-use answering::status::{Status, finish};
-use answering::words::is_word;
-use calling::words::words_of_call;
 use outside::standard::{StdSink, StdSource};
 use std::process::ExitCode;
 

@@ -4,10 +4,10 @@
 //! It has no contract of its own: what it prints, and its status, are those of the call.
 #![tactic(auto)]
 
+use autonet_call::status::{Status, finish};
+use autonet_file_commands::file::{answer_file, command_of};
+use common_call::words::words_of_call;
 use common_values::memory::OutOfMemory;
-use answering::status::{Status, finish};
-use calling::words::words_of_call;
-use file_commands::file::{answer_file, command_of};
 use outside::standard::{StdSink, StdSource};
 use std::process::ExitCode;
 

@@ -5,8 +5,8 @@ ghost use Rattle.topo_graph.specs.Topology.{IsGraph};
 ghost use Rattle.broadcast_flood.specs.Tree.{AreChildPorts, IsDown};
 ghost use Rattle.broadcast_flood.specs.Kept.{AreChildren};
 
-use common_values::memory::OutOfMemory;
 use an_base::row::ExitList;
+use common_values::memory::OutOfMemory;
 use std::alloc::Global;
 use topo_graph::graph::Graph;
 

@@ -13,7 +13,7 @@ use Rattle.common_values.proofs.PigeonLemmas.{pigeons}
 use Rattle.topo_graph.specs.Topology.{IsGraph}
 use Rattle.dep_check.specs.declared.channel.Channel.{Channel}
 use Rattle.dep_check.specs.Channels.{HasExit, IsChannel, LeadsTo, far_at, place_in}
-use Rattle.channel_graph.specs.Cycles.{HasNoCycle, Path, Walk}
+use Rattle.common_graph.specs.Cycles.{HasNoCycle, Path, Walk}
 use Rattle.dep_check.specs.Laws.{GoesBetween}
 use Rattle.dep_check.specs.Packets.{AllAreJoined, GoesOn, IsGap}
 use Rattle.dep_check.proofs.BridgeLemmas.{place_contained}

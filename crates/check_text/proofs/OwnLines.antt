@@ -24,17 +24,17 @@ use Rattle.common_values.proofs.ListLemmas.{AllPairs-head, AllPairs-tail}
 use Rattle.net_graph.specs.Wires.{network}
 use Rattle.net_graph.specs.Forest.{IsComponent, IsMember}
 use Rattle.net_graph.proofs.FarLemmas.{far_is, network_closed}
-use Rattle.text_lines.specs.Words.{is_number, is_number_in, number_value}
+use Rattle.common_lines.specs.Words.{is_number, is_number_in, number_value}
 use Rattle.table_script.specs.TableRules.{is_colon, port_words, are_ports, rise_above, is_pair, are_pairs, pair_number, pair_exits, row_of, entry_cause}
-use Rattle.text_lines.specs.Faults.{unless}
+use Rattle.common_lines.specs.Faults.{unless}
 use Rattle.net_script.specs.Scripts.{ScriptOf, IsScript}
 use Rattle.row_text.specs.TableForms.{TableForm}
 use Rattle.net_script.specs.declared.cause.ScriptCause.TheVariants.{BadNumber, PortRange}
-use Rattle.text_lines.proofs.SpellLemmas.{IsPrinted, IsWord, decimal_word, decimal_value, decimal_number}
+use Rattle.common_lines.proofs.SpellLemmas.{IsPrinted, IsWord, decimal_word, decimal_value, decimal_number}
 use Rattle.net_names.proofs.WordLemmas.{name_word}
-use Rattle.text_lines.proofs.WordLemmas.{own}
-use Rattle.text_lines.proofs.SpellLemmas.{fixed_word, words_cons, words_nil}
-use Rattle.text_lines.proofs.FaultLemmas.{unless_good, first_good}
+use Rattle.common_lines.proofs.WordLemmas.{own}
+use Rattle.common_lines.proofs.SpellLemmas.{fixed_word, words_cons, words_nil}
+use Rattle.common_lines.proofs.FaultLemmas.{unless_good, first_good}
 use Rattle.switch_numbering.specs.Numbering.{numbering}
 use Rattle.topo_graph.specs.Topology.{IsGraph, nothing, entry_at, life_at}
 use Rattle.table_build.specs.Exits.{LeadsTo, Begins, may_go_up, is_entry}

@@ -32,8 +32,8 @@ use Rattle.table_script.specs.Tables.{TablesOf}
 use Rattle.table_script.specs.TableDrafts.{TableDraftOf}
 use Rattle.row_text.specs.TableForms.{TableForm, ComponentLine, MemberLine, NumberLine, RowLine, EndLine}
 use Rattle.table_script.specs.TableRules.{row_of, tables_of, AreNumbersApart, number_of as drafted_number}
-use Rattle.text_lines.specs.Words.{number_value}
-use Rattle.text_lines.proofs.SpellLemmas.{decimal_value}
+use Rattle.common_lines.specs.Words.{number_value}
+use Rattle.common_lines.proofs.SpellLemmas.{decimal_value}
 use Rattle.topo_graph.specs.Topology.{IsGraph, IsTree, nothing, entry_at, life_at}
 use Rattle.switch_numbering.specs.Numbering.{numbering}
 use Rattle.table_build.specs.Exits.{is_entry}
@@ -56,7 +56,7 @@ use Rattle.expect_text.specs.Expect.{component_form, member_form, number_form, p
 use Rattle.row_text.specs.Rows.{pair_word, row_form, member_rows, table_forms}
 use Rattle.check_text.proofs.OwnApart.{own_numbers}
 use Rattle.check_text.proofs.OwnLines.{pair_says}
-use Rattle.channel_graph.proofs.OneAnswer.{no_both}
+use Rattle.common_graph.proofs.OneAnswer.{no_both}
 use Rattle.table_build.proofs.MadeTables.{entry_passes, entry_low}
 use Rattle.common_values.proofs.RangeLemmas.{Contains-kept}
 use Rattle.table_build.proofs.MadeLists.{in_flat}

@@ -14,9 +14,9 @@ ghost use Rattle.check_text.specs.Runs.{AreRuns, IsRun};
 
 use crate::runs::runs_of;
 use an_base::entry::{Entries, Entry};
-use common_values::memory::OutOfMemory;
 use an_base::numbers::Numbers;
 use an_base::row::Row;
+use common_values::memory::OutOfMemory;
 use common_values::text::push_decimal;
 use dep_check::channel::{Channel, Channels};
 use dep_check::check::{Ranks, check};

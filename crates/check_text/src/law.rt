@@ -10,7 +10,7 @@ ghost use Rattle.topo_graph.specs.Topology.{IsGraph, IsTree};
 ghost use Rattle.switch_numbering.specs.Numbering.{numbering};
 ghost use Rattle.dep_check.specs.Answer.{Passes};
 ghost use Rattle.dep_check.specs.Channels.{far_at, LeadsTo};
-ghost use Rattle.channel_graph.specs.Cycles.{HasNoCycle, Walk};
+ghost use Rattle.common_graph.specs.Cycles.{HasNoCycle, Walk};
 ghost use Rattle.dep_check.specs.Illegal.{AllAreLegal};
 ghost use Rattle.dep_check.specs.Laws.{GoesBetween};
 ghost use Rattle.dep_check.specs.Packets.{AllAreJoined, GoesOn};

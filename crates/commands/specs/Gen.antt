@@ -2,14 +2,14 @@
 
 use Rattle.std.specs.Prelude.{◌≡◌, ◌-◌, ◌^◌, ℕ, List, [], ◌∷◌, ◌++◌, true, codes}
 use Rattle.outside.specs.Told.{Seen, Gains, GainsFront, IsKept, Failed}
-use Rattle.text_lines.specs.Words.{is_number_in, number_value}
+use Rattle.common_lines.specs.Words.{is_number_in, number_value}
 use Rattle.net_script.specs.Texts.{IsText}
 use Rattle.script_text.specs.Canonical.{canonical_text}
 use Rattle.net_gen.specs.Generated.{generated}
 use Rattle.net_gen.specs.Summary.{IsSummary}
-use Rattle.answering.specs.declared.status.Status.{Status}
-use Rattle.answering.specs.declared.status.Status.TheVariants.{Ok, WriteFault, OutOfMemory}
-use Rattle.answering.specs.Answer.{Streams, IsTold}
+use Rattle.autonet_call.specs.declared.status.Status.{Status}
+use Rattle.autonet_call.specs.declared.status.Status.TheVariants.{Ok, WriteFault, OutOfMemory}
+use Rattle.autonet_call.specs.Answer.{Streams, IsTold}
 
 -- the words `gen SEED N`, with a seed below 2^64 and N from 1 to 100
 pub record AreGenWords (words : List (List ℕ)) (seed count : ℕ) : Type 0 where

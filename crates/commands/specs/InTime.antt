@@ -2,11 +2,11 @@
 
 use Rattle.std.specs.Prelude.{ℕ, List}
 use Rattle.outside.specs.Told.{Gains}
-use Rattle.fabric_settling.specs.Settling.{HasTime}
-use Rattle.answering.specs.declared.status.Status.{Status}
-use Rattle.answering.specs.declared.status.Status.TheVariants.{Unsettled}
-use Rattle.answering.specs.Status.{line_of}
-use Rattle.answering.specs.Answer.{Gives, IsGiven, Streams, input_limit}
+use Rattle.net_settling.specs.Settling.{HasTime}
+use Rattle.autonet_call.specs.declared.status.Status.{Status}
+use Rattle.autonet_call.specs.declared.status.Status.TheVariants.{Unsettled}
+use Rattle.autonet_call.specs.Status.{line_of}
+use Rattle.autonet_call.specs.Answer.{Gives, IsGiven, Streams, input_limit}
 use Rattle.commands.specs.Replay.{IsReplayedOf}
 use Rattle.commands.specs.Run.{IsRunOf}
 

@@ -4,8 +4,8 @@ use Rattle.std.specs.Prelude.{◌≡◌, ℕ, List}
 use Rattle.an_base.specs.declared.event.Event.{Event}
 use Rattle.net_script.specs.Scripts.{ScriptOf}
 use Rattle.report.specs.Beliefs.{AreNames}
-use Rattle.answering.specs.declared.status.Status.TheVariants.{Ok}
-use Rattle.answering.specs.Answer.{Gives}
+use Rattle.autonet_call.specs.declared.status.Status.TheVariants.{Ok}
+use Rattle.autonet_call.specs.Answer.{Gives}
 use Rattle.commands.specs.Replay.{IsJournaled}
 
 -- after a script stands a legal journal, and this is what hosts believe in it

@@ -10,9 +10,9 @@ use Rattle.replay.specs.Division.{IsDivision}
 use Rattle.replay.specs.Replays.{IsNoReplay}
 use Rattle.replay.specs.declared.refusal.ReplayRefusal.{ReplayRefusal}
 use Rattle.replay.specs.declared.refusal.ReplayRefusal.TheVariants as illegal
-use Rattle.answering.specs.declared.status.Status.{Status}
-use Rattle.answering.specs.declared.status.Status.TheVariants.{JournalRefused, OutOfMemory}
-use Rattle.answering.specs.Answer.{Gives, IfRefused, Refuses}
+use Rattle.autonet_call.specs.declared.status.Status.{Status}
+use Rattle.autonet_call.specs.declared.status.Status.TheVariants.{JournalRefused, OutOfMemory}
+use Rattle.autonet_call.specs.Answer.{Gives, IfRefused, Refuses}
 use Rattle.commands.specs.Reported.{IsReported}
 
 -- the bytes are the text of a script, and after it these

@@ -4,13 +4,13 @@ use Rattle.std.specs.Prelude.{◌≡◌, ℕ, List}
 use Rattle.an_base.specs.declared.event.Event.{Event}
 use Rattle.net_script.specs.Scripts.{ScriptOf}
 use Rattle.journal.specs.Texts.{IsJournal}
-use Rattle.fabric_state.specs.declared.ending.Ending.{Ending}
-use Rattle.fabric_state.specs.declared.ending.Ending.TheVariants as ending
-use Rattle.fabric_world.specs.World.{world_after}
+use Rattle.net_state.specs.declared.ending.Ending.{Ending}
+use Rattle.net_state.specs.declared.ending.Ending.TheVariants as ending
+use Rattle.net_world.specs.World.{world_after}
 use Rattle.row_text.specs.Names.{life_text}
 use Rattle.report.specs.Events.{IsReport}
-use Rattle.answering.specs.declared.status.Status.{Status}
-use Rattle.answering.specs.declared.status.Status.TheVariants.{Ok, Unsettled, EpochsSpent, JournalFull}
+use Rattle.autonet_call.specs.declared.status.Status.{Status}
+use Rattle.autonet_call.specs.declared.status.Status.TheVariants.{Ok, Unsettled, EpochsSpent, JournalFull}
 
 -- the status of a journal with an end, at a tick
 abbrev pub status_of_end : ScriptOf → ℕ → Ending → Status

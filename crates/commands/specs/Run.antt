@@ -5,12 +5,12 @@ use Rattle.an_base.specs.declared.event.Event.{Event}
 use Rattle.net_script.specs.Scripts.{ScriptOf}
 use Rattle.net_script.specs.Texts.{IsText}
 use Rattle.journal.specs.Events.{CanSpell, journal_text}
-use Rattle.fabric_world.specs.Histories.{IsLegal}
-use Rattle.fabric_settling.specs.Claims.{HoldsAndSettles}
+use Rattle.net_world.specs.Histories.{IsLegal}
+use Rattle.net_settling.specs.Claims.{HoldsAndSettles}
 use Rattle.fabric_book.specs.Accounts.{AreAccounts}
 use Rattle.switch_threads.specs.declared.running.Told.{Told}
-use Rattle.answering.specs.declared.status.Status.{Status}
-use Rattle.answering.specs.Answer.{Gives}
+use Rattle.autonet_call.specs.declared.status.Status.{Status}
+use Rattle.autonet_call.specs.Answer.{Gives}
 use Rattle.commands.specs.Reported.{IsReported}
 
 -- The run is legal, all that is claimed of a history holds of its journal, and these are its accounts.

@@ -1,15 +1,15 @@
 -- The answer of the program to the words of a call.
 
 use Rattle.std.specs.Prelude.{◌≡◌, ◌≢◌, ℕ, List, [], ◌∷◌, codes}
-use Rattle.answering.specs.Answer.{Streams, IsAnswer, IsUsageAnswer, input_limit}
-use Rattle.file_commands.specs.Flow.{AreFlowWords}
+use Rattle.autonet_call.specs.Answer.{Streams, IsAnswer, IsUsageAnswer, input_limit}
+use Rattle.autonet_file_commands.specs.Flow.{AreFlowWords}
 use Rattle.commands.specs.Gen.{AreGenWords, IsGenAnswer}
 use Rattle.commands.specs.Names.{gives_names}
 use Rattle.commands.specs.Replay.{gives_replayed, refuses_journal}
 use Rattle.commands.specs.Run.{gives_run}
-use Rattle.answering.specs.Scripted.{refuses_script}
-use Rattle.answering.specs.Expect.{IsExpectAnswer}
-use Rattle.file_commands.specs.Answers.{IsCheckAnswer, IsFloodAnswer, IsFlowAnswer}
+use Rattle.autonet_call.specs.Scripted.{refuses_script}
+use Rattle.autonet_call.specs.Expect.{IsExpectAnswer}
+use Rattle.autonet_file_commands.specs.Answers.{IsCheckAnswer, IsFloodAnswer, IsFlowAnswer}
 
 -- the answer to `replay`
 abbrev pub IsReplayAnswer : Streams → Streams → ℕ → Type 0

@@ -6,9 +6,10 @@ ghost use Rattle.net_script.specs.Texts.{IsText};
 ghost use Rattle.script_text.specs.Canonical.{canonical_text};
 ghost use Rattle.commands.specs.Gen.{AreGenWords, IsGenAnswerOn, IsGenCause, IsGenerated};
 
+use autonet_call::status::{Status, finish};
+use common_lines::word::number_between;
 use common_values::memory::OutOfMemory;
 use common_values::text::Word;
-use answering::status::{Status, finish};
 use net_gen::script::script_of;
 use net_gen::summary::summary;
 use net_script::script::Script;
@@ -16,7 +17,6 @@ use outside::all::write_all;
 use outside::sink::Sink;
 use script_text::printer::print;
 use std::alloc::Global;
-use text_lines::word::number_between;
 
 // The second and the third of three words, of which the first has these bytes.
 fn words_behind<'a>(words: &'a [Word], bytes: &[u8]) -> Option<(&'a Word, &'a Word)>

@@ -5,14 +5,14 @@ ghost use Rattle.an_base.specs.declared.event.Event.{Event};
 ghost use Rattle.net_script.specs.Scripts.{ScriptOf};
 ghost use Rattle.net_script.specs.Texts.{IsText};
 ghost use Rattle.journal.specs.Texts.{IsJournal};
-ghost use Rattle.fabric_state.specs.declared.ending.Ending.{Ending};
-ghost use Rattle.fabric_world.specs.Histories.{IsLegal};
-ghost use Rattle.answering.specs.Answer.{input_limit, refuses_nothing, IsAnswer, Streams};
+ghost use Rattle.net_state.specs.declared.ending.Ending.{Ending};
+ghost use Rattle.net_world.specs.Histories.{IsLegal};
+ghost use Rattle.autonet_call.specs.Answer.{input_limit, refuses_nothing, IsAnswer, Streams};
 ghost use Rattle.commands.specs.Complete.{gives_names_of, gives_report_of, gives_text};
 ghost use Rattle.commands.specs.InTime.{IsUnsettledAnswer, gives_late_replay, gives_late_run};
 ghost use Rattle.commands.specs.Replay.{IsScriptWith};
 ghost use Rattle.commands.specs.Run.{IsRun, gives_run_of};
-ghost use Rattle.answering.specs.declared.status.Status.{Status};
+ghost use Rattle.autonet_call.specs.declared.status.Status.{Status};
 ghost use Rattle.commands.specs.Words.{IsNamesAnswer, IsReplayAnswer, IsRunAnswer};
 
 /// A source that tells its bytes has the text of a script, within the limit. Then `run`, if it answers, does

@@ -3,14 +3,14 @@
 ghost use Rattle.std.specs.Prelude.{◌≤◌, length, IfErr, IfOk};
 ghost use Rattle.replay.specs.Replays.{IfIllegal, IsNoReplay};
 ghost use Rattle.report.specs.Beliefs.{AreNamesIn};
-ghost use Rattle.answering.specs.Answer.{input_limit, streams};
+ghost use Rattle.autonet_call.specs.Answer.{input_limit, streams};
 ghost use Rattle.commands.specs.Names.{gives_names};
 ghost use Rattle.commands.specs.Words.{IsNamesAnswer};
 ghost use Rattle.commands.specs.Replay.{refuses_journal};
 
 use crate::replaying::{Journaled, read_first, refused};
-use answering::command::{Command, Given, answer};
-use answering::status::Status;
+use autonet_call::command::{Command, Given, answer};
+use autonet_call::status::Status;
 use outside::sink::Sink;
 use outside::source::Source;
 use replay::refusal::ReplayRefusal;

@@ -1,16 +1,16 @@
 //! The command `replay`: the report of a journal.
 
 ghost use Rattle.std.specs.Prelude.{◌≡◌, ◌⊎◌, ◌≤◌, length, IfErr, IfOk};
-ghost use Rattle.answering.specs.declared.status.Status.TheVariants as ended;
+ghost use Rattle.autonet_call.specs.declared.status.Status.TheVariants as ended;
 ghost use Rattle.replay.specs.Replays.{IfIllegal, IsNoReplay};
-ghost use Rattle.answering.specs.Answer.{IsEnding, input_limit, streams};
+ghost use Rattle.autonet_call.specs.Answer.{IsEnding, input_limit, streams};
 ghost use Rattle.commands.specs.Replay.{IsScriptWith, gives_replayed, refuses_journal, replay_refused_as};
 ghost use Rattle.commands.specs.Words.{IsReplayAnswer};
 ghost use Rattle.commands.specs.Reported.{IsReportedText};
 
 use crate::reported::told_text;
-use answering::command::{Command, Given, answer};
-use answering::status::Status;
+use autonet_call::command::{Command, Given, answer};
+use autonet_call::status::Status;
 use net_script::reader::read;
 use net_script::script::Script;
 use outside::sink::Sink;

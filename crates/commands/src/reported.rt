@@ -2,14 +2,14 @@
 
 ghost use Rattle.std.specs.Prelude.{◌≡◌, ◌≤◌, length, IfErr, IfOk};
 ghost use Rattle.replay.specs.Replays.{IfIllegal, IsNoReplay, IsRefusal};
-ghost use Rattle.answering.specs.Answer.{IsEnding, input_limit};
+ghost use Rattle.autonet_call.specs.Answer.{IsEnding, input_limit};
 ghost use Rattle.commands.specs.Reported.{IsReported, IsReportedText, status_of_end};
 
+use autonet_call::command::Given;
+use autonet_call::status::Status;
 use common_values::memory::OutOfMemory;
-use answering::command::Given;
-use answering::status::Status;
-use fabric_state::ending::Ending;
 use net_script::script::Script;
+use net_state::ending::Ending;
 use replay::refusal::ReplayRefusal;
 use report::reporter::{Report, life_name, reported_text};
 use std::alloc::Global;

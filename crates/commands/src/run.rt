@@ -3,20 +3,20 @@
 ghost use Rattle.std.specs.Prelude.{◌≡◌, ◌⊎◌, ◌≤◌, All, length, IfErr, IfOk};
 ghost use Rattle.journal.specs.Events.{CanSpell, journal_text};
 ghost use Rattle.net_script.specs.Scripts.{IsScript};
-ghost use Rattle.calling.specs.Inputs.{IsInput};
-ghost use Rattle.answering.specs.declared.status.Status.TheVariants as ended;
-ghost use Rattle.answering.specs.Answer.{streams, IsCause, IsEnding, IsStop, input_limit};
+ghost use Rattle.common_call.specs.Inputs.{IsInput};
+ghost use Rattle.autonet_call.specs.declared.status.Status.TheVariants as ended;
+ghost use Rattle.autonet_call.specs.Answer.{streams, IsCause, IsEnding, IsStop, input_limit};
 ghost use Rattle.commands.specs.Reported.{IsReported};
 ghost use Rattle.commands.specs.Run.{IsRun, IsToldRun, gives_run};
-ghost use Rattle.answering.specs.Scripted.{refuses_script};
+ghost use Rattle.autonet_call.specs.Scripted.{refuses_script};
 ghost use Rattle.commands.specs.Words.{IsRunAnswer};
 
 use crate::reported::given as given_of;
+use autonet_call::command::Given;
+use autonet_call::input::INPUT_LIMIT;
+use autonet_call::status::{Status, finish};
+use common_call::input::read_input;
 use common_values::memory::OutOfMemory;
-use answering::command::Given;
-use answering::input::INPUT_LIMIT;
-use answering::status::{Status, finish};
-use calling::input::read_input;
 use journal::printer::print;
 use net_script::reader::read;
 use net_script::script::Script;

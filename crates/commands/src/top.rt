@@ -1,16 +1,16 @@
 //! The call that answers all words.
 
-ghost use Rattle.answering.specs.Answer.{streams};
+ghost use Rattle.autonet_call.specs.Answer.{streams};
 ghost use Rattle.commands.specs.Words.{IsAnswerTo};
 
 use crate::generate::{autonet_gen, gen_words};
 use crate::names::autonet_names;
 use crate::replaying::autonet_replay;
 use crate::run::autonet_run;
+use autonet_call::status::{Status, finish};
+use autonet_call::words::is_word;
+use autonet_file_commands::file::{answer_file, command_of};
 use common_values::text::Word;
-use answering::status::{Status, finish};
-use answering::words::is_word;
-use file_commands::file::{answer_file, command_of};
 use outside::sink::Sink;
 use outside::source::Source;
 use std::alloc::Global;

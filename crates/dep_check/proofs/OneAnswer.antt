@@ -11,7 +11,7 @@ use Rattle.dep_check.specs.declared.channel.Channel.{Channel}
 use Rattle.dep_check.specs.declared.refusal.CheckRefusal.{CheckRefusal}
 use Rattle.dep_check.specs.declared.refusal.CheckRefusal.TheVariants.{Cycle, NotJoined, IllegalExit, OutOfMemory}
 use Rattle.dep_check.specs.Channels.{far_at, IsChannel, LeadsTo, channel_cmp}
-use Rattle.channel_graph.proofs.OneAnswer.{no_both, one_cycle, one_rank}
+use Rattle.common_graph.proofs.OneAnswer.{no_both, one_cycle, one_rank}
 use Rattle.dep_check.specs.Packets.{four_cmp}
 use Rattle.dep_check.specs.Tables.{rank_at}
 use Rattle.dep_check.specs.Answer.{IsRefusal, Passes}

@@ -4,7 +4,7 @@ use Rattle.std.proofs.lemmas.Option.{same_Some}
 use Rattle.dep_check.specs.declared.channel.Channel.{Channel}
 use Rattle.dep_check.specs.declared.steps.Steps.{Steps}
 use Rattle.dep_check.specs.declared.level.Rule.TheVariants.{Rank}
-use Rattle.channel_graph.specs.Cycles.{Path, IsCycle}
+use Rattle.common_graph.specs.Cycles.{Path, IsCycle}
 use Rattle.dep_check.specs.Tables.{IsSpot, place_of, level_at}
 use Rattle.dep_check.specs.Search.{Step, IsStepOf, IsLinked, IsRaised, AreRaised, IsRanked, AreRanked, AreRankedBelow}
 use Rattle.common_values.proofs.PigeonLemmas.{pigeons}

@@ -6,7 +6,7 @@ use Rattle.dep_check.specs.declared.refusal.CheckRefusal.{CheckRefusal}
 use Rattle.dep_check.specs.declared.refusal.CheckRefusal.TheVariants.{Cycle, NotJoined, IllegalExit}
 use Rattle.dep_check.specs.declared.refusal.CheckRefusal.TheVariants.{OutOfMemory}
 use Rattle.dep_check.specs.Channels.{far_at, IsChannel, LeadsTo, channel_cmp}
-use Rattle.channel_graph.specs.Cycles.{HasNoCycle, IsLeastCycle, AreRanks}
+use Rattle.common_graph.specs.Cycles.{HasNoCycle, IsLeastCycle, AreRanks}
 use Rattle.dep_check.specs.Packets.{AllAreJoined, IsLeastGap}
 use Rattle.dep_check.specs.Illegal.{AllAreLegal, IsLeastIllegal}
 use Rattle.dep_check.specs.Tables.{rank_at}

@@ -5,7 +5,7 @@ use Rattle.std.specs.Prelude.{◌≡◌, ◌≢◌, ◌⊎◌, ℕ, List, Option
 use Rattle.an_base.specs.Rows.{RowOf}
 use Rattle.dep_check.specs.declared.channel.Channel.{Channel}
 use Rattle.dep_check.specs.Channels.{HasExit}
-use Rattle.channel_graph.specs.Cycles.{Walk}
+use Rattle.common_graph.specs.Cycles.{Walk}
 
 -- What came in at a port of a switch and goes to a number goes on before the target, by an exit of the row
 -- and its link, and comes in at another.

@@ -5,7 +5,7 @@ use Rattle.an_base.specs.Rows.{RowOf}
 use Rattle.dep_check.specs.declared.channel.Channel.{Channel}
 use Rattle.dep_check.specs.declared.steps.Steps.{Steps}
 use Rattle.dep_check.specs.declared.gap.Pair.{Pair}
-use Rattle.channel_graph.specs.Cycles.{Walk}
+use Rattle.common_graph.specs.Cycles.{Walk}
 use Rattle.dep_check.specs.Channels.{channel_cmp}
 use Rattle.dep_check.specs.Packets.{MeetsGap}
 use Rattle.dep_check.specs.Tables.{IsSpot}

@@ -8,7 +8,7 @@ use Rattle.dep_check.specs.declared.channel.Channel.{Channel}
 use Rattle.dep_check.specs.declared.steps.Steps.{Steps}
 use Rattle.dep_check.specs.declared.level.Rule.{Rule}
 use Rattle.dep_check.specs.declared.level.Rule.TheVariants.{Nearest, Rank}
-use Rattle.channel_graph.specs.Cycles.{IsLeastFrom, Walk}
+use Rattle.common_graph.specs.Cycles.{IsLeastFrom, Walk}
 use Rattle.dep_check.specs.Channels.{channel_cmp}
 use Rattle.dep_check.specs.Tables.{IsSpot, place_of, wire_at, has_at, AreExitsBelow, level_at}
 

@@ -3,7 +3,7 @@ use Rattle.std.specs.Prelude.{◌≡◌, ◌⊎◌, ◌+◌, ℕ, List, [], ◌�
 use Rattle.std.specs.Prelude.{slice_index_or, if◌then◌else◌}
 use Rattle.dep_check.specs.declared.channel.Channel.{Channel}
 use Rattle.dep_check.specs.declared.steps.Steps.{Steps}
-use Rattle.channel_graph.specs.Cycles.{Walk}
+use Rattle.common_graph.specs.Cycles.{Walk}
 use Rattle.dep_check.specs.Tables.{IsSpot, place_of}
 use Rattle.dep_check.specs.Search.{IsStuck, Step}
 

@@ -1,7 +1,7 @@
 //! The least cycle. It starts at the least channel that leads back to itself, and follows levels that fall to it.
 
 ghost use Rattle.std.specs.Prelude.{◌≡◌, ◌<◌, ◌+◌, IfOk, MatchOption, IfSome, Some, None, ◌∷◌};
-ghost use Rattle.channel_graph.specs.Cycles.{HasNoCycle, IsLeastCycle};
+ghost use Rattle.common_graph.specs.Cycles.{HasNoCycle, IsLeastCycle};
 ghost use Rattle.dep_check.specs.Channels.{channel_cmp};
 ghost use Rattle.dep_check.specs.Tables.{IsSpot};
 ghost use Rattle.dep_check.specs.Search.{AreNearest, HasNextAt, IsNextAt, LeastAfter, Step, IsLeastCycleFrom};

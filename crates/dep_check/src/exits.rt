@@ -9,8 +9,8 @@ use crate::channel::Channel;
 use crate::ports::{has, only_ports, with};
 use crate::spot::{SPOTS, place_of};
 use an_base::limits::{LAST_PORT, MOST_NUMBER};
-use common_values::memory::OutOfMemory;
 use an_base::row::Row;
+use common_values::memory::OutOfMemory;
 use std::alloc::Global;
 
 /// Whether a table has an exit for what came in at a spot.

@@ -16,9 +16,9 @@ use crate::spot::{SPOTS, spot_at};
 use crate::steps::Steps;
 use crate::targets::ByTarget;
 use crate::walk::{is_seen, none_seen, walk};
-use common_values::memory::OutOfMemory;
 use an_base::numbers::Numbers;
 use an_base::row::Row;
+use common_values::memory::OutOfMemory;
 use std::alloc::Global;
 
 /// A pair that is not joined, by numbers, and where packets get stuck between them.

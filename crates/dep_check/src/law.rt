@@ -6,7 +6,7 @@ ghost use Rattle.an_base.specs.Rows.{RowOf};
 ghost use Rattle.an_base.specs.Numbers.{AreNumbers};
 ghost use Rattle.topo_graph.specs.Topology.{IsGraph, IsTree};
 ghost use Rattle.dep_check.specs.Channels.{far_at, HasExit, LeadsTo};
-ghost use Rattle.channel_graph.specs.Cycles.{HasNoCycle, Walk};
+ghost use Rattle.common_graph.specs.Cycles.{HasNoCycle, Walk};
 ghost use Rattle.dep_check.specs.Packets.{AllAreJoined, GoesOn};
 ghost use Rattle.dep_check.specs.Illegal.{AllAreLegal};
 ghost use Rattle.dep_check.specs.Laws.{AreTables, GoesBetween};

@@ -11,8 +11,8 @@ ghost use Rattle.dep_check.specs.Rounds.{LeadsToOne};
 use crate::channel::Channel;
 use crate::spot::{SPOTS, place_of, spot_at};
 use crate::steps::Steps;
-use common_values::memory::OutOfMemory;
 use an_base::port_set::{lowest, without};
+use common_values::memory::OutOfMemory;
 use std::alloc::Global;
 
 /// When a spot without a level gets one.

@@ -11,10 +11,10 @@ use crate::channel::Channel;
 use crate::exits::{all_exits, exits_at, has_exit, no_exits};
 use crate::spot::place_of;
 use crate::targets::ByTarget;
-use common_values::memory::OutOfMemory;
 use an_base::numbers::Numbers;
 use an_base::port_set::{lowest, without};
 use an_base::row::Row;
+use common_values::memory::OutOfMemory;
 use std::alloc::Global;
 
 /// The steps over spots: from a channel to those that it leads to by the rows of all numbers, or of

@@ -10,9 +10,9 @@ use crate::exits::{add_row, no_exits};
 use crate::spot::SPOTS;
 use crate::wires::place_in;
 use an_base::limits::MOST_NUMBER;
-use common_values::memory::OutOfMemory;
 use an_base::numbers::Numbers;
 use an_base::row::Row;
+use common_values::memory::OutOfMemory;
 use std::alloc::Global;
 
 /// The exits of rows by their targets: for each number of a topology those of the rows towards it, as a

@@ -9,8 +9,8 @@ use crate::deep::{leave_all, walk_deep};
 use crate::spot::{SPOTS, place_of, spot_at};
 use crate::steps::Steps;
 use crate::walk::{is_seen, none_seen};
-use common_values::memory::OutOfMemory;
 use an_base::port_set::{lowest, without};
+use common_values::memory::OutOfMemory;
 use std::alloc::Global;
 
 // The tier of a spot, 0 in an empty table, by which all spots have one tier.

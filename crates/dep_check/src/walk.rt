@@ -9,8 +9,8 @@ ghost use Rattle.dep_check.specs.Walks.{IsWalked, seen_at, Sees};
 use crate::channel::Channel;
 use crate::spot::{SPOTS, place_of};
 use crate::steps::Steps;
-use common_values::memory::OutOfMemory;
 use an_base::port_set::{lowest, without};
+use common_values::memory::OutOfMemory;
 use std::alloc::Global;
 
 /// No spot is seen.

@@ -8,8 +8,8 @@ ghost use Rattle.dep_check.specs.Tables.{AreWires, AreWiresBelow, IsSpot};
 
 use crate::channel::Channel;
 use crate::spot::SPOTS;
-use common_values::memory::OutOfMemory;
 use an_base::numbers::Numbers;
+use common_values::memory::OutOfMemory;
 use std::alloc::Global;
 use topo_graph::graph::Graph;
 

@@ -2,7 +2,7 @@
 
 ghost use Rattle.std.specs.Prelude.{◌≡◌, ◌≤◌, ◌++◌, List, All, length, map, IfOk, OnOk};
 ghost use Rattle.std.specs.List.{zip};
-ghost use Rattle.text_lines.specs.Lines.{line_text};
+ghost use Rattle.common_lines.specs.Lines.{line_text};
 ghost use Rattle.row_text.specs.TableForms.{table_words};
 ghost use Rattle.switch_numbering.specs.Numbering.{numbering};
 ghost use Rattle.table_build.specs.Routing.{IsRouting};
@@ -12,8 +12,9 @@ ghost use Rattle.row_text.specs.TableForms.{table_text};
 ghost use Rattle.row_text.specs.Rows.{table_forms};
 
 use an_base::entry::{Entries, Entry};
-use common_values::memory::OutOfMemory;
 use an_base::numbers::Numbers;
+use common_lines::spelling::push_line;
+use common_values::memory::OutOfMemory;
 use itoa::Buffer;
 use net_graph::forest::trees;
 use net_script::script::Script;
@@ -24,7 +25,6 @@ use std::alloc::Global;
 use switch_numbering::numbering::number;
 use table_build::routing::Routing;
 use table_build::table::Table;
-use text_lines::spelling::push_line;
 use topo_graph::graph::Graph;
 
 // Appends the line of a member: its level and, below the root, its parent and its port to it.

@@ -4,8 +4,8 @@ use Rattle.std.specs.Prelude.{◌≡◌, ◌+◌, ◌<◌, ◌++◌, ◌∷◌, 
 use Rattle.an_base.specs.Rows.{RowOf}
 use Rattle.an_base.specs.declared.event.Event.{Event}
 use Rattle.net_script.specs.Scripts.{ScriptOf}
-use Rattle.fabric_state.specs.declared.line.PlacedLine.{PlacedLine}
-use Rattle.fabric_world.specs.Accounts.{AccountOf, account_of}
+use Rattle.net_state.specs.declared.line.PlacedLine.{PlacedLine}
+use Rattle.net_world.specs.Accounts.{AccountOf, account_of}
 use Rattle.fabric_book.specs.declared.account.Account.{Account}
 
 -- it has what is told

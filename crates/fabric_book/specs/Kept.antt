@@ -5,12 +5,12 @@ use Rattle.an_base.specs.declared.event.Event.{Event}
 use Rattle.an_base.specs.declared.event.Event.TheVariants.{Tick, Move}
 use Rattle.net_script.specs.Commands.{is_restart}
 use Rattle.net_script.specs.Scripts.{IsScript}
-use Rattle.fabric_state.specs.Fabric.{FabricOf, places, samples_of}
-use Rattle.fabric_state.specs.declared.work.Work.{Work}
-use Rattle.fabric_state.specs.declared.work.Work.TheVariants as work
-use Rattle.fabric_state.specs.Lawful.{is_command}
-use Rattle.fabric_world.specs.World.{world_after}
-use Rattle.fabric_world.specs.Histories.{HistoryOf, IsLawful, last_taken}
+use Rattle.net_state.specs.Fabric.{FabricOf, places, samples_of}
+use Rattle.net_state.specs.declared.work.Work.{Work}
+use Rattle.net_state.specs.declared.work.Work.TheVariants as work
+use Rattle.net_state.specs.Lawful.{is_command}
+use Rattle.net_world.specs.World.{world_after}
+use Rattle.net_world.specs.Histories.{HistoryOf, IsLawful, last_taken}
 
 -- The script can be, the events were lawful in turn, the fabric is what they make of it, the port last taken
 -- at each place is theirs, and there is room for all events of the script.

@@ -9,15 +9,15 @@ use Rattle.net_script.specs.Scripts.{IsScript, ScriptOf}
 use Rattle.switch_core.specs.Switch.{StartOf, SwitchOf, started_as}
 use Rattle.switch_core.specs.Bytes.{OutOf, all_spelled}
 use Rattle.switch_core.specs.Kept.{KeptOf, StandsFor}
-use Rattle.fabric_state.specs.declared.hand.Hand.{Hand}
-use Rattle.fabric_state.specs.declared.hand.Hand.TheVariants as hand
-use Rattle.fabric_state.specs.Fabric.{station, held_bytes}
-use Rattle.fabric_state.specs.declared.line.Line.{Line}
-use Rattle.fabric_world.specs.Accounts.{gathered}
-use Rattle.fabric_world.specs.Lines.{lines_of}
-use Rattle.fabric_world.specs.World.{WorldOf, handles, start_of}
-use Rattle.fabric_world.specs.Histories.{HistoryOf, IsLawful, fabric_of, owner_of, with_event, world_of}
-use Rattle.fabric_world.specs.Turns.{is_noise}
+use Rattle.net_state.specs.declared.hand.Hand.{Hand}
+use Rattle.net_state.specs.declared.hand.Hand.TheVariants as hand
+use Rattle.net_state.specs.Fabric.{station, held_bytes}
+use Rattle.net_state.specs.declared.line.Line.{Line}
+use Rattle.net_world.specs.Accounts.{gathered}
+use Rattle.net_world.specs.Lines.{lines_of}
+use Rattle.net_world.specs.World.{WorldOf, handles, start_of}
+use Rattle.net_world.specs.Histories.{HistoryOf, IsLawful, fabric_of, owner_of, with_event, world_of}
+use Rattle.net_world.specs.Turns.{is_noise}
 
 -- a script and the events that came, and whether memory was wanting, after which nothing else is known
 pub record NetOf : Type 0 where

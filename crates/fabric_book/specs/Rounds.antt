@@ -2,15 +2,15 @@
 
 use Rattle.std.specs.Prelude.{◌≡◌, ◌++◌, ◌<◌, ◌≤◌, ℕ, List, [], length, Option, Some, None, false}
 use Rattle.an_base.specs.declared.event.Event.{Event}
-use Rattle.fabric_state.specs.declared.ending.Ending.{Ending}
-use Rattle.fabric_state.specs.declared.work.Drive.TheVariants as drive
-use Rattle.fabric_state.specs.Choices.{next_drive}
-use Rattle.fabric_state.specs.declared.work.Drive.{Drive}
-use Rattle.fabric_state.specs.declared.line.Line.{Line}
-use Rattle.fabric_world.specs.Histories.{fabric_of, last_taken, world_of}
-use Rattle.fabric_world.specs.Lines.{lines_of}
-use Rattle.fabric_world.specs.World.{WorldOf, begun}
-use Rattle.fabric_world.specs.Solo.{IsOneThread, worker_event}
+use Rattle.net_state.specs.declared.ending.Ending.{Ending}
+use Rattle.net_state.specs.declared.work.Drive.TheVariants as drive
+use Rattle.net_state.specs.Choices.{next_drive}
+use Rattle.net_state.specs.declared.work.Drive.{Drive}
+use Rattle.net_state.specs.declared.line.Line.{Line}
+use Rattle.net_world.specs.Histories.{fabric_of, last_taken, world_of}
+use Rattle.net_world.specs.Lines.{lines_of}
+use Rattle.net_world.specs.World.{WorldOf, begun}
+use Rattle.net_world.specs.Solo.{IsOneThread, worker_event}
 use Rattle.fabric_book.specs.Nets.{NetOf, driver_lines, history_of}
 
 -- whose turn it is: that of the worker at a place, or that of the driver

@@ -4,11 +4,11 @@ use Rattle.std.specs.Prelude.{ℕ, List, [], ◌∷◌, ◌++◌, Bool, if◌the
 use Rattle.std.specs.List.{flat_map}
 use Rattle.port_monitor.specs.Histories.{externals}
 use Rattle.switch_core.specs.Switch.{SwitchOf, note_of}
-use Rattle.fabric_state.specs.declared.hand.Hand.{Hand}
-use Rattle.fabric_state.specs.declared.hand.Hand.TheVariants as hand
-use Rattle.fabric_state.specs.declared.line.Line.{Line}
-use Rattle.fabric_state.specs.declared.line.Line.TheVariants as line
-use Rattle.fabric_world.specs.Lines.{finish_lines, join_lines, no_frame_lines, port_line, no_epoch_lines}
+use Rattle.net_state.specs.declared.hand.Hand.{Hand}
+use Rattle.net_state.specs.declared.hand.Hand.TheVariants as hand
+use Rattle.net_state.specs.declared.line.Line.{Line}
+use Rattle.net_state.specs.declared.line.Line.TheVariants as line
+use Rattle.net_world.specs.Lines.{finish_lines, join_lines, no_frame_lines, port_line, no_epoch_lines}
 
 -- a line if something is so
 abbrev pub line_if : Bool → Line → List Line

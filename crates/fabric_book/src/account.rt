@@ -1,12 +1,12 @@
 //! What is told of the events of a caller.
 
 ghost use Rattle.std.specs.Prelude.{◌≡◌, ◌∷◌, [], option_to_list};
-ghost use Rattle.fabric_world.specs.Accounts.{AccountOf, placed};
+ghost use Rattle.net_world.specs.Accounts.{AccountOf, placed};
 ghost use Rattle.fabric_book.specs.Accounts.{IsAccount, with_lines, with_load};
 
 use crate::lines::Lines;
 use an_base::row::Row;
-use fabric_state::line::PlacedLine;
+use net_state::line::PlacedLine;
 use std::alloc::Global;
 
 /// What is told of the events of a caller, and the rows of each table that it loaded, in order; and whether memory

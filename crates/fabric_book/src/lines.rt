@@ -5,7 +5,7 @@ ghost use Rattle.std.specs.List.{flat_map};
 ghost use Rattle.fabric_book.specs.Told.{line_if};
 
 use common_values::memory::OutOfMemory;
-use fabric_state::line::Line;
+use net_state::line::Line;
 use std::alloc::Global;
 use std::marker::Model;
 
@@ -17,7 +17,7 @@ pub struct Lines {
 
 impl Model for Lines {
     ghost use Rattle.std.specs.Prelude.{List};
-    ghost use Rattle.fabric_state.specs.declared.line.Line.{Line};
+    ghost use Rattle.net_state.specs.declared.line.Line.{Line};
 
     ghost Value = { List Line };
 

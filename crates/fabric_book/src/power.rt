@@ -4,8 +4,8 @@ ghost use Rattle.std.specs.Prelude.{◌≡◌, ◌<◌, length, IfOk};
 ghost use Rattle.fabric_book.specs.Nets.{IsStarted, power_of, start_with};
 
 use an_base::life::Life;
-use common_values::memory::OutOfMemory;
 use an_base::place::Place;
+use common_values::memory::OutOfMemory;
 use net_script::script::Script;
 use std::alloc::Global;
 use std::marker::Model;

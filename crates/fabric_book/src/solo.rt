@@ -2,20 +2,20 @@
 
 ghost use Rattle.std.specs.Prelude.{◌≡◌, ◌+◌, ◌<◌, length, IfOk, OnOk};
 ghost use Rattle.net_script.specs.Scripts.{IsScript};
-ghost use Rattle.fabric_world.specs.Histories.{IsLegal};
-ghost use Rattle.fabric_world.specs.Solo.{IsSolo};
-ghost use Rattle.fabric_world.specs.World.{begun, world_after};
+ghost use Rattle.net_world.specs.Histories.{IsLegal};
+ghost use Rattle.net_world.specs.Solo.{IsSolo};
+ghost use Rattle.net_world.specs.World.{begun, world_after};
 ghost use Rattle.fabric_book.specs.Nets.{driver_lines};
 ghost use Rattle.fabric_book.specs.Rounds.{AreIdleBefore, GoesOn, HasDriven, IsIdleAt, IsTurnOf, IsTurnOfDriver, told_of};
 
 use crate::lines::Lines;
 use crate::net::Net;
 use an_base::event::Journal;
-use common_values::memory::OutOfMemory;
 use an_base::place::Place;
-use fabric_state::ending::Ending;
-use fabric_state::work::Drive;
+use common_values::memory::OutOfMemory;
 use net_script::script::Script;
+use net_state::ending::Ending;
+use net_state::work::Drive;
 use std::alloc::Global;
 
 /// A run: its journal, and its end.

@@ -5,18 +5,18 @@ ghost use Rattle.std.specs.List.{flat_map};
 ghost use Rattle.port_monitor.specs.Histories.{externals};
 ghost use Rattle.switch_core.specs.Switch.{SwitchOf, finish_of};
 ghost use Rattle.switch_core.specs.Kept.{StandsFor};
-ghost use Rattle.fabric_state.specs.PortStates.{state_code};
-ghost use Rattle.fabric_state.specs.declared.line.Line.TheVariants as line;
-ghost use Rattle.fabric_world.specs.Lines.{finish_line, port_line};
+ghost use Rattle.net_state.specs.PortStates.{state_code};
+ghost use Rattle.net_state.specs.declared.line.Line.TheVariants as line;
+ghost use Rattle.net_world.specs.Lines.{finish_line, port_line};
 ghost use Rattle.fabric_book.specs.Told.{line_if, noise_lines};
 
 use crate::lines::Lines;
 use an_base::limits::LAST_PORT;
-use common_values::memory::OutOfMemory;
 use an_base::place::Place;
 use an_base::port::{Note, Port, PortState, PortView};
-use fabric_state::hand::Hand;
-use fabric_state::line::Line;
+use common_values::memory::OutOfMemory;
+use net_state::hand::Hand;
+use net_state::line::Line;
 use switch_core::switch::Switch;
 
 // Whether two states are one.

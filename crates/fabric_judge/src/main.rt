@@ -3,13 +3,13 @@
 //! It has no contract of its own: what it prints, and its status, are those of the call.
 #![tactic(auto)]
 
+use common_call::words::words_of_call;
 use common_values::memory::OutOfMemory;
 use common_values::text::Word;
-use calling::words::words_of_call;
-use ib_answering::status::{Status, finish};
-use ib_judging::input::Input;
-use ib_judging::question::answer_question;
-use ib_judging::words::{Call, Task, call_of, file_of};
+use fabric_call::status::{Status, finish};
+use fabric_judge_call::input::Input;
+use fabric_judge_call::question::answer_question;
+use fabric_judge_call::words::{Call, Task, call_of, file_of};
 use outside::standard::{StdSink, StdSource};
 use std::process::ExitCode;
 

@@ -11,8 +11,8 @@ ghost use Rattle.fabric_turn.specs.Seats.{HasAllNumbers, joined_view, new_view, 
 use crate::order::{Compare, Draw, Fork, Look, Merge, Opening, Order, Pass, Views};
 use crate::seat::Seat;
 use crate::staged::Staged;
-use common_values::memory::OutOfMemory;
 use atomic_table::{Refused, Table};
+use common_values::memory::OutOfMemory;
 use std::alloc::Global;
 use std::snapshot::Snapshot;
 use std::sync::{Mutex, Wait};

@@ -8,8 +8,8 @@ use Rattle.std.proofs.lemmas.Grind.{flat_map-append}
 use Rattle.an_base.specs.Values.{LifeId, EntryOf}
 use Rattle.net_graph.specs.Wires.{Wires, IsWired}
 use Rattle.net_graph.specs.Forest.{IsForest}
-use Rattle.text_lines.specs.Lines.{line_text}
-use Rattle.text_lines.proofs.FormTexts.{text_push, go_on}
+use Rattle.common_lines.specs.Lines.{line_text}
+use Rattle.common_lines.proofs.FormTexts.{text_push, go_on}
 use Rattle.net_script.specs.Scripts.{ScriptOf}
 use Rattle.topo_graph.specs.Topology.{entry_at, life_at, nothing, IsTree}
 use Rattle.broadcast_flood.specs.Floods.{IsBroadcast}

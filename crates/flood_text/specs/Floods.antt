@@ -3,7 +3,7 @@ use Rattle.std.specs.Fmt.{decimal}
 use Rattle.std.specs.List.{flat_map, zip}
 use Rattle.an_base.specs.Values.{LifeId, EntryOf}
 use Rattle.net_graph.specs.Forest.{IsForest}
-use Rattle.text_lines.specs.Lines.{forms_text_by}
+use Rattle.common_lines.specs.Lines.{forms_text_by}
 use Rattle.net_script.specs.Scripts.{ScriptOf}
 use Rattle.topo_graph.specs.Topology.{life_at}
 use Rattle.broadcast_flood.specs.Floods.{HopOf, IsFlood, IsBroadcast, copies, hop_at}

@@ -3,7 +3,7 @@
 ghost use Rattle.std.specs.Prelude.{◌≡◌, ◌++◌, ◌∷◌, List, [], All, codes, length, map, IfOk, OnOk};
 ghost use Rattle.std.specs.Fmt.{decimal};
 ghost use Rattle.an_base.specs.Values.{EntryOf};
-ghost use Rattle.text_lines.specs.Lines.{line_text};
+ghost use Rattle.common_lines.specs.Lines.{line_text};
 ghost use Rattle.topo_graph.specs.Topology.{IsTree};
 ghost use Rattle.broadcast_flood.specs.declared.hop.FloodHop.{FloodHop as FloodHopOf};
 ghost use Rattle.flood_text.specs.Floods.{AreFloods, flood_lines, flood_text, FloodPart, From, Goes};
@@ -11,15 +11,15 @@ ghost use Rattle.flood_text.specs.Floods.{IsFloodOf, line_words, lines_told, par
 
 use an_base::entry::Entries;
 use an_base::life::Life;
-use common_values::memory::OutOfMemory;
 use broadcast_flood::flood::Flood;
 use broadcast_flood::hop::FloodHop;
+use common_lines::spelling::push_line;
+use common_values::memory::OutOfMemory;
 use itoa::Buffer;
 use net_graph::forest::trees;
 use net_script::script::Script;
 use row_text::piece::Lives;
 use std::alloc::Global;
-use text_lines::spelling::push_line;
 use topo_graph::graph::Graph;
 
 // Appends the line of a hop.

@@ -10,7 +10,7 @@ use Rattle.std.proofs.lemmas.List.FromFn.{get_or-map-range_with_len}
 use Rattle.common_values.proofs.PigeonLemmas.{pigeons}
 use Rattle.dep_check.specs.declared.channel.Channel.{Channel}
 use Rattle.dep_check.specs.Channels.{IsChannel, LeadsTo}
-use Rattle.channel_graph.specs.Cycles.{HasNoCycle, Path, Walk}
+use Rattle.common_graph.specs.Cycles.{HasNoCycle, Path, Walk}
 use Rattle.dep_check.specs.Tables.{IsSpot, place_of, rank_at}
 use Rattle.dep_check.proofs.SpotLemmas.{one_spot, option_cases, place_low, spot_cases, spot_true}
 use Rattle.flow_channels.specs.Layout.{HasRanks, IsWired, LayoutOf, has_exit, spot}

@@ -5,7 +5,7 @@ use Rattle.an_base.specs.Values.{EntryOf}
 use Rattle.an_base.specs.Rows.{RowOf}
 use Rattle.dep_check.specs.declared.channel.Channel.{Channel}
 use Rattle.dep_check.specs.Channels.{far_at, IsChannel, LeadsTo}
-use Rattle.channel_graph.specs.Cycles.{AreRanks}
+use Rattle.common_graph.specs.Cycles.{AreRanks}
 use Rattle.dep_check.specs.Packets.{AllAreJoined}
 use Rattle.dep_check.specs.Tables.{IsSpot, rank_at}
 

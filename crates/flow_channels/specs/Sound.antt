@@ -2,7 +2,7 @@
 use Rattle.std.specs.Prelude.{◌≡◌, ◌≢◌, ◌≤◌, ◌⊎◌, ℕ, List, [], ◌∷◌, Option, Some, None, All, AllPairs}
 use Rattle.std.specs.Prelude.{Contains, length}
 use Rattle.dep_check.specs.declared.channel.Channel.{Channel}
-use Rattle.channel_graph.specs.Cycles.{Walk}
+use Rattle.common_graph.specs.Cycles.{Walk}
 use Rattle.dep_check.specs.Packets.{GoesOn}
 use Rattle.dep_check.specs.Tables.{IsSpot}
 use Rattle.flow_channels.specs.Layout.{LayoutOf, spot}

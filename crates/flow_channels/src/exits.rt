@@ -9,9 +9,9 @@ ghost use Rattle.flow_channels.specs.Exits.{AreExitsOf};
 ghost use Rattle.flow_channels.specs.Sets.{AreInTurn, AreSetsOf, AreStartsBelow};
 
 use an_base::limits::{LAST_PORT, MOST_NUMBER};
-use common_values::memory::OutOfMemory;
 use an_base::numbers::Numbers;
 use an_base::row::Row;
+use common_values::memory::OutOfMemory;
 use dep_check::channel::Channel;
 use dep_check::ports::with;
 use dep_check::spot::{SPOTS, place_of};

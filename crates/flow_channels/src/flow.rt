@@ -4,7 +4,7 @@ ghost use Rattle.std.specs.Prelude.{◌≡◌, ◌+◌, ◌≤◌, ◌↔◌, Li
 ghost use Rattle.std.specs.Prelude.{MatchOption};
 ghost use Rattle.an_base.specs.Rows.{RowOf};
 ghost use Rattle.dep_check.specs.Channels.{far_at, LeadsTo};
-ghost use Rattle.channel_graph.specs.Cycles.{HasNoCycle};
+ghost use Rattle.common_graph.specs.Cycles.{HasNoCycle};
 ghost use Rattle.dep_check.specs.Packets.{AllAreJoined};
 ghost use Rattle.flow_channels.specs.Board.{flow_of};
 ghost use Rattle.flow_channels.specs.Exits.{AreExitsOf};
@@ -21,8 +21,8 @@ use crate::exits::ExitTable;
 use crate::tables::Tables;
 use crate::watch::Watch;
 use crate::went::Went;
-use common_values::memory::OutOfMemory;
 use an_base::numbers::Numbers;
+use common_values::memory::OutOfMemory;
 use std::alloc::Global;
 use std::marker::Model;
 use topo_graph::graph::Graph;

@@ -9,8 +9,8 @@ ghost use Rattle.flow_channels.specs.Exits.{AreExitsOf};
 ghost use Rattle.flow_channels.specs.Layout.{layout_of};
 
 use crate::exits::ExitTable;
-use common_values::memory::OutOfMemory;
 use an_base::numbers::Numbers;
+use common_values::memory::OutOfMemory;
 use dep_check::channel::Channel;
 use dep_check::spot::place_of;
 use dep_check::wires::wires_of;

@@ -3,7 +3,7 @@ use Rattle.std.specs.Fmt.{decimal}
 use Rattle.std.specs.List.{flat_map}
 use Rattle.an_base.specs.Values.{EntryOf}
 use Rattle.net_graph.specs.Forest.{IsForest}
-use Rattle.text_lines.specs.Lines.{forms_text_by}
+use Rattle.common_lines.specs.Lines.{forms_text_by}
 use Rattle.net_script.specs.Scripts.{ScriptOf}
 use Rattle.switch_numbering.specs.Numbering.{numbering}
 use Rattle.dep_check.specs.Tables.{IsSpot}

@@ -7,7 +7,7 @@ ghost use Rattle.std.specs.List.{flat_map};
 ghost use Rattle.an_base.specs.Values.{EntryOf};
 ghost use Rattle.net_graph.specs.Forest.{IsComponent, IsForest};
 ghost use Rattle.net_script.specs.Scripts.{IsScript, ScriptOf};
-ghost use Rattle.text_lines.specs.Lines.{line_text};
+ghost use Rattle.common_lines.specs.Lines.{line_text};
 ghost use Rattle.switch_numbering.specs.Numbering.{numbering};
 ghost use Rattle.flow_channels.specs.Layout.{LayoutOf};
 ghost use Rattle.flow_channels.specs.View.{IsOver};
@@ -21,21 +21,21 @@ ghost use Rattle.flow_text.specs.Sends.{entering, homes_of, is_entering, is_loca
 
 use crate::sent::{Home, Sent, count_local, entering, homes_of, is_joined, sends_of};
 use an_base::entry::{Entries, Entry};
-use common_values::memory::OutOfMemory;
 use an_base::numbers::Numbers;
 use an_base::place::Place;
+use common_lines::spelling::push_line;
+use common_values::memory::OutOfMemory;
 use common_values::text::Word;
 use flow_channels::exits::ExitTable;
 use flow_channels::flow::Flow;
 use flow_channels::went::Went;
 use itoa::Buffer;
 use net_graph::forest::trees;
+use net_names::names::Names;
 use net_script::script::Script;
 use row_text::piece::{push_bytes, push_name};
 use std::alloc::Global;
 use switch_numbering::numbering::number;
-use net_names::names::Names;
-use text_lines::spelling::push_line;
 use topo_graph::graph::Graph;
 
 // The graph of a component, the numbers of its members, and the exits of their tables.

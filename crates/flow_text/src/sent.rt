@@ -8,9 +8,9 @@ ghost use Rattle.flow_text.specs.Sends.{number_of, numbers_in, sends_of};
 
 use an_base::entry::{Entries, Entry};
 use an_base::event::Event;
-use common_values::memory::OutOfMemory;
 use an_base::numbers::Numbers;
 use an_base::place::Place;
+use common_values::memory::OutOfMemory;
 use net_graph::wiring::{HostOn, SwitchAt};
 use net_script::script::Script;
 use std::alloc::Global;

@@ -10,9 +10,9 @@ ghost use Rattle.host_traffic.specs.Filed.{IsFiledIn, IsFoundAt, IsPlaceFor, pla
 use crate::hop::{DropCause, Hop};
 use crate::packet::Packet;
 use crate::view::HopView;
-use common_values::memory::OutOfMemory;
 use an_base::place::Place;
 use an_base::port::Port;
+use common_values::memory::OutOfMemory;
 use slab::Slab;
 use std::alloc::Global;
 use std::collections::VecDeque;

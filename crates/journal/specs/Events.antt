@@ -5,7 +5,7 @@ use Rattle.an_base.specs.declared.event.Event.TheVariants.{Tick, Clock, Take, Ha
 use Rattle.an_base.specs.declared.event.Event.TheVariants.{Lose, Again, Swap, Noise, Send, Move, Restart}
 use Rattle.net_script.specs.Commands.{IsPort}
 use Rattle.net_script.specs.Scripts.{ScriptOf}
-use Rattle.text_lines.specs.Lines.{line_text, lines_text}
+use Rattle.common_lines.specs.Lines.{line_text, lines_text}
 use Rattle.journal.specs.Lines.{Line, Ticks, Moves, OnSwitch, OnPort, OnWire, Sends, line_words}
 use Rattle.journal.specs.declared.kind.SwitchEvent.TheVariants as switch
 use Rattle.journal.specs.declared.kind.PortEvent.TheVariants as port

@@ -2,7 +2,7 @@
 
 use Rattle.std.specs.Prelude.{◌≡◌, ℕ, ◌+◌, List, ◌∷◌, [], ◌++◌, length, All, Option, Some, None}
 use Rattle.an_base.specs.declared.event.Event.{Event}
-use Rattle.text_lines.specs.Lines.{line_text}
+use Rattle.common_lines.specs.Lines.{line_text}
 use Rattle.net_script.specs.Scripts.{ScriptOf}
 use Rattle.journal.specs.Events.{CanSpell, first_words, events_text}
 use Rattle.journal.specs.Texts.{IsJournal}

@@ -4,7 +4,7 @@ use Rattle.std.specs.Prelude.{◌≡◌, ℕ, ◌+◌, List, Some, Vec, slice_ge
 use Rattle.std.specs.declared.alloc.Global.{Global}
 use Rattle.an_base.specs.declared.event.Event.TheVariants.{Clock, Take, Handle, Load}
 use Rattle.net_script.specs.Scripts.{ScriptOf}
-use Rattle.text_lines.specs.Lines.{line_text}
+use Rattle.common_lines.specs.Lines.{line_text}
 use Rattle.journal.specs.declared.printer.ReadyLines.{ReadyLines}
 use Rattle.journal.specs.Events.{event_words}
 

@@ -1,12 +1,12 @@
 use Rattle.std.specs.Prelude.{◌^◌, ◌-◌, ℕ, List, Option, None, is_some}
 use Rattle.std.specs.Option.{option_or}
-use Rattle.text_lines.specs.Words.{is_number_in}
+use Rattle.common_lines.specs.Words.{is_number_in}
 use Rattle.net_names.specs.Names.{place_of}
 use Rattle.net_script.specs.Commands.{most_count}
 use Rattle.net_script.specs.Scripts.{ScriptOf}
 use Rattle.journal_cause.specs.declared.cause.JournalCause.{JournalCause}
 use Rattle.journal_cause.specs.declared.cause.JournalCause.TheVariants.{BadNumber, NoSuchName}
-use Rattle.text_lines.specs.Faults.{unless}
+use Rattle.common_lines.specs.Faults.{unless}
 use Rattle.journal.specs.Lines.{Line, Ticks, Moves, OnSwitch, OnPort, OnWire, Sends}
 
 -- What is wrong with the fields of a line.

@@ -2,10 +2,10 @@ use Rattle.std.specs.Prelude.{◌≡◌, ℕ, List, Some, Result, Ok, Err, ⊤}
 use Rattle.an_base.specs.declared.event.Event.{Event}
 use Rattle.net_script.specs.Scripts.{ScriptOf}
 use Rattle.std.specs.List.{join_with_byte}
-use Rattle.text_lines.specs.declared.stop.Stop.{Stop}
-use Rattle.text_lines.specs.declared.stop.Stop.TheVariants as stop
-use Rattle.text_lines.specs.declared.stop.Refusal.{Refusal}
-use Rattle.text_lines.specs.Stops.{IsRefusalBy}
+use Rattle.common_lines.specs.declared.stop.Stop.{Stop}
+use Rattle.common_lines.specs.declared.stop.Stop.TheVariants as stop
+use Rattle.common_lines.specs.declared.stop.Refusal.{Refusal}
+use Rattle.common_lines.specs.Stops.{IsRefusalBy}
 use Rattle.journal_cause.specs.declared.cause.JournalCause.{JournalCause}
 use Rattle.journal.specs.Events.{CanSpell, event_words}
 use Rattle.journal.specs.Lines.{Line, line_words}

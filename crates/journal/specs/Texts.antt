@@ -1,7 +1,7 @@
 use Rattle.std.specs.Prelude.{◌≡◌, ◌≢◌, ◌⊎◌, ℕ, ◌+◌, List, [], ◌∷◌, ◌++◌, length, All, true, false, codes}
 use Rattle.an_base.specs.declared.event.Event.{Event}
-use Rattle.text_lines.specs.Lines.{line_text}
-use Rattle.text_lines.specs.Grammar.{IsFaultyFormBy}
+use Rattle.common_lines.specs.Lines.{line_text}
+use Rattle.common_lines.specs.Grammar.{IsFaultyFormBy}
 use Rattle.net_script.specs.Scripts.{ScriptOf}
 use Rattle.journal_cause.specs.declared.cause.JournalCause.{JournalCause}
 use Rattle.journal_cause.specs.declared.cause.JournalCause.TheVariants.{BadHeader, UnknownWord, NoEnd}

@@ -5,9 +5,9 @@ ghost use Rattle.std.specs.List.{list_all};
 ghost use Rattle.journal.specs.Words.{words_of, is_line_byte, has_words};
 ghost use Rattle.journal.specs.Texts.{IsFirstLine};
 
+use common_lines::line::first_of;
 use common_values::memory::OutOfMemory;
 use memchr::memchr;
-use text_lines::line::first_of;
 
 /// The most bytes of a line, without its line feed.
 pub const MOST_LINE: usize = 200;

@@ -3,21 +3,21 @@
 ghost use Rattle.std.specs.Prelude.{◌≡◌, ◌≤◌, ◌++◌, ℕ, [], ◌∷◌, codes, All, IfOk, IfSome, OnOk};
 ghost use Rattle.std.specs.Fmt.{decimal};
 ghost use Rattle.an_base.specs.declared.event.Event.TheVariants.{Take};
-ghost use Rattle.text_lines.specs.Lines.{line_text};
+ghost use Rattle.common_lines.specs.Lines.{line_text};
 ghost use Rattle.net_script.specs.Scripts.{ScriptOf};
 ghost use Rattle.journal.specs.Events.{CanSpell, IsSwitch, event_words, events_text, journal_text};
 ghost use Rattle.journal.specs.Ready.{AreLinesOf, AreReady, AreTakesOf};
 
 use an_base::event::{Event, Journal};
 use an_base::limits::LAST_PORT;
-use common_values::memory::OutOfMemory;
 use an_base::place::Place;
 use an_base::port::Port;
+use common_lines::spelling::push_line;
+use common_values::memory::OutOfMemory;
 use itoa::Buffer;
 use net_script::script::Script;
 use script_text::printer::{push_at, push_send};
 use std::alloc::Global;
-use text_lines::spelling::push_line;
 
 // The lines of the events of a switch that come most often.
 #[derive(Drop)]

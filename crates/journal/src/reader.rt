@@ -3,8 +3,8 @@
 ghost use Rattle.std.specs.Prelude.{◌≡◌, ◌≢◌, ◌<◌, ◌≤◌, ◌-◌, ◌^◌, ◌++◌, [], List, ℕ, length, map, if◌then◌else◌, All, IfOk, IfErr, IfSome, IfNone, OnErr, OnOk};
 ghost use Rattle.an_base.specs.declared.event.Event.{Event};
 ghost use Rattle.net_script.specs.Scripts.{ScriptOf};
-ghost use Rattle.text_lines.specs.Lines.{line_text};
-ghost use Rattle.text_lines.specs.declared.stop.Stop.TheVariants.{Fault};
+ghost use Rattle.common_lines.specs.Lines.{line_text};
+ghost use Rattle.common_lines.specs.declared.stop.Stop.TheVariants.{Fault};
 ghost use Rattle.journal_cause.specs.declared.cause.JournalCause.TheVariants.{UnknownWord};
 ghost use Rattle.journal.specs.declared.line.TheConstants.{MOST_LINE};
 ghost use Rattle.journal.specs.Words.{words_of, is_shaped};
@@ -16,11 +16,11 @@ ghost use Rattle.journal.specs.Reading.{BeginsJournal, HasRead, IsNext};
 use crate::line::{MOST_LINE, are_line_bytes, first_line, have_bytes, set_words};
 use crate::words::read_words;
 use an_base::event::{Event, Journal};
+use common_lines::stop::{Refusal, Stop};
 use journal_cause::cause::JournalCause;
 use net_script::script::Script;
 use std::alloc::Global;
 use std::marker::Model;
-use text_lines::stop::{Refusal, Stop};
 
 /// Why bytes were not read, or a journal was refused: the first faulty line, from 1, with what is wrong
 /// with it; or that no memory was found, which says nothing about the bytes.

@@ -2,7 +2,7 @@
 
 ghost use Rattle.std.specs.Prelude.{◌≡◌, ◌≢◌, ◌<◌, ◌≤◌, [], ◌∷◌, map, IfSome, IfNone};
 ghost use Rattle.std.specs.Fmt.{decimal};
-ghost use Rattle.text_lines.specs.Faults.{IsGoodField};
+ghost use Rattle.common_lines.specs.Faults.{IsGoodField};
 ghost use Rattle.journal.specs.declared.kind.SwitchEvent.{SwitchEvent};
 ghost use Rattle.journal.specs.declared.kind.PortEvent.{PortEvent};
 ghost use Rattle.journal.specs.Lines.{Moves, OnSwitch, OnPort, OnWire, Sends, switch_word, port_word};
@@ -14,10 +14,10 @@ use crate::kind::{PortEvent, SwitchEvent};
 use an_base::event::Event;
 use an_base::place::Place;
 use an_base::port::Port;
+use common_lines::word::{is, number_between};
 use journal_cause::cause::JournalCause;
 use net_script::command::WireChange;
 use net_script::script::Script;
-use text_lines::word::{is, number_between};
 
 /// The event that words say.
 pub fn read_words(script: &Script, words: &[&[u8]]) -> Result<Event, JournalCause>

@@ -1,10 +1,10 @@
 //! Why a text is no journal, or no legal one.
 
 ghost use Rattle.std.specs.Prelude.{◌≡◌};
-ghost use Rattle.text_lines.specs.declared.stop.Stop.TheVariants.{Fault};
+ghost use Rattle.common_lines.specs.declared.stop.Stop.TheVariants.{Fault};
 ghost use Rattle.journal_cause.specs.Causes.{cause_text};
 
-use text_lines::stop::Stop;
+use common_lines::stop::Stop;
 
 /// What is wrong with a line of a journal.
 #[derive(Clone, Copy, Debug, PartialEq, Eq)]

@@ -10,7 +10,7 @@ use Rattle.std.proofs.lemmas.Fmt.{decimal_injective, digits_decimal, length-deci
 use Rattle.std.proofs.lemmas.List.FromFn.{length-range_with_len, get_or-range_with_len}
 use Rattle.common_values.proofs.MemberLemmas.{Any-from_map}
 use Rattle.net_names.specs.Words.{is_name_byte, IsName}
-use Rattle.text_lines.proofs.WordLemmas.{own}
+use Rattle.common_lines.proofs.WordLemmas.{own}
 
 -- a digit is a byte of a name
 digit_of_name : (c : ℕ) → is_ascii_digit c ≡ true → is_name_byte c ≡ true

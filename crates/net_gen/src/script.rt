@@ -10,9 +10,9 @@ ghost use Rattle.net_gen.specs.Made.{AreLow, CanSend, HasFirst, IsMade, drawn_of
 
 use crate::draw::Draw;
 use an_base::event::Event;
-use common_values::memory::OutOfMemory;
 use an_base::place::Place;
 use an_base::port::Port;
+use common_values::memory::OutOfMemory;
 use common_values::text::{Word, push_decimal};
 use net_graph::wiring::{HostOn, LinkAt, SwitchAt};
 use net_script::script::Script;

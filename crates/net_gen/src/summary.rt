@@ -6,9 +6,9 @@ ghost use Rattle.net_gen.specs.Summary.{IsComment, IsSummary, counted, end_word,
 use common_values::memory::OutOfMemory;
 use common_values::text::push_decimal;
 use fabric_book::solo::{ToldRun, solo};
-use fabric_state::ending::Ending;
-use fabric_state::line::Line;
 use net_script::script::Script;
+use net_state::ending::Ending;
+use net_state::line::Line;
 use std::alloc::Global;
 
 // Whether a line tells that a packet came to its host.

@@ -6,9 +6,9 @@ ghost use Rattle.net_graph.specs.Wires.{IsWired, network};
 ghost use Rattle.net_graph.specs.Levels.{level_at, HasNeighbourAt, IsRound, IsReached, AreDistances};
 
 use crate::wiring::Wiring;
-use common_values::memory::OutOfMemory;
 use an_base::place::Place;
 use an_base::port::Port;
+use common_values::memory::OutOfMemory;
 use std::alloc::Global;
 
 /// The level of x, if it has one.

@@ -15,10 +15,10 @@ use crate::wiring::Wiring;
 use an_base::entry::{Entries, Entry};
 use an_base::life::End;
 use an_base::links::{Links, PortLink};
-use common_values::memory::OutOfMemory;
 use an_base::place::Place;
 use an_base::port::Port;
 use an_base::position::Position;
+use common_values::memory::OutOfMemory;
 use std::alloc::Global;
 
 // The better of the best so far and what a port leads to.

@@ -6,9 +6,9 @@ ghost use Rattle.net_graph.specs.Wires.{a_end, b_end, far_at, far_of, had_of, ho
 ghost use Rattle.net_graph.specs.Table.{cell_at, Puts};
 
 use an_base::life::Life;
-use common_values::memory::OutOfMemory;
 use an_base::place::Place;
 use an_base::port::Port;
+use common_values::memory::OutOfMemory;
 use std::alloc::Global;
 use std::marker::Model;
 

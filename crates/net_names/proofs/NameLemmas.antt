@@ -8,7 +8,7 @@ use Rattle.std.proofs.lemmas.List.Folds.{list_any_none}
 use Rattle.std.proofs.lemmas.Slice.Eq.{bytes_eq-Decides}
 use Rattle.std.proofs.Math.Seq.{take-append_seam}
 use Rattle.net_names.specs.Names.{place_of}
-use Rattle.text_lines.proofs.LineLemmas.{position_none}
+use Rattle.common_lines.proofs.LineLemmas.{position_none}
 
 -- a name without a place is none of the names
 pub no_place : (names : List (List ℕ)) (name : List ℕ) → place_of names name ≡ None → ¬ Contains names name

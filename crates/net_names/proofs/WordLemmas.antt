@@ -3,8 +3,8 @@ use Rattle.std.specs.List.{list_all}
 use Rattle.std.proofs.lemmas.Bool.{and_parts}
 use Rattle.std.proofs.lemmas.Bool.Decides.{nat_tests}
 use Rattle.std.proofs.Math.Nat.{pow-le-pow_right}
-use Rattle.text_lines.specs.Words.{hex_text}
-use Rattle.text_lines.proofs.SpellLemmas.{IsPrinted, IsWord, all_from_test, hex_digits, hex_printed, hex_says, length-hex_text}
+use Rattle.common_lines.specs.Words.{hex_text}
+use Rattle.common_lines.proofs.SpellLemmas.{IsPrinted, IsWord, all_from_test, hex_digits, hex_printed, hex_says, length-hex_text}
 use Rattle.net_names.specs.Words.{is_name_byte, IsName, is_uid, uid_value}
 
 -- Names and identifiers are printed words.

@@ -1,11 +1,11 @@
 //! The spelling of identifiers.
 
 ghost use Rattle.std.specs.Prelude.{◌≡◌, IfOk};
-ghost use Rattle.text_lines.specs.Words.{hex_text};
+ghost use Rattle.common_lines.specs.Words.{hex_text};
 
+use common_lines::spelling::push_hex;
 use common_values::memory::OutOfMemory;
 use std::alloc::Global;
-use text_lines::spelling::push_hex;
 
 /// An identifier in twelve hexadecimal digits, the last twelve if it has more.
 pub fn identifier(alloc: Global, uid: u64) -> Result<Vec<u8>, OutOfMemory>

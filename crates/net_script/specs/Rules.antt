@@ -16,9 +16,9 @@ use Rattle.net_script.specs.declared.cause.ScriptCause.TheVariants.{BadNumber, B
 use Rattle.net_script.specs.declared.cause.ScriptCause.TheVariants.{NoSuchName, PortRange, PortUsed, TooMany}
 use Rattle.net_script.specs.declared.cause.ScriptCause.TheVariants.{TimesFall, NoLink}
 use Rattle.net_script.specs.declared.draft.Part.TheVariants.{After}
-use Rattle.text_lines.specs.Words.{is_number, is_number_in, number_value}
+use Rattle.common_lines.specs.Words.{is_number, is_number_in, number_value}
 use Rattle.net_names.specs.Words.{is_name, is_uid, uid_value}
-use Rattle.text_lines.specs.Faults.{unless, first_of}
+use Rattle.common_lines.specs.Faults.{unless, first_of}
 use Rattle.net_script.specs.Settings.{least_of, most_of, has_come, with_come}
 use Rattle.net_script.specs.Commands.{link_event, wire_event, most_count, is_used, is_linked, last_time}
 use Rattle.net_script.specs.Scripts.{ScriptOf, lives_of, with_switch, with_link, with_host, with_command}

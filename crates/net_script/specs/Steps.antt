@@ -1,7 +1,7 @@
 use Rattle.std.specs.Prelude.{◌≡◌, ℕ, List, Some}
-use Rattle.text_lines.specs.declared.stop.Stop.{Stop}
-use Rattle.text_lines.specs.declared.stop.Refusal.{Refusal}
-use Rattle.text_lines.specs.Stops.{IsRefusalBy, ReadsFormBy}
+use Rattle.common_lines.specs.declared.stop.Stop.{Stop}
+use Rattle.common_lines.specs.declared.stop.Refusal.{Refusal}
+use Rattle.common_lines.specs.Stops.{IsRefusalBy, ReadsFormBy}
 use Rattle.net_script.specs.declared.cause.ScriptCause.{ScriptCause}
 use Rattle.net_script.specs.declared.draft.Draft.{Draft}
 use Rattle.net_script.specs.Forms.{Form}

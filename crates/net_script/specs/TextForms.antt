@@ -1,5 +1,5 @@
 use Rattle.std.specs.Prelude.{◌≡◌, ◌≢◌, ℕ, List, [], ◌∷◌, ◌++◌, map, All, None}
-use Rattle.text_lines.specs.Lines.{lines_of, with_words}
+use Rattle.common_lines.specs.Lines.{lines_of, with_words}
 use Rattle.net_script.specs.declared.draft.Draft.{Draft}
 use Rattle.net_script.specs.Drafts.{begun}
 use Rattle.net_script.specs.Forms.{Form, End, form_words, header_words}

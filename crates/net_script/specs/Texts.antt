@@ -1,8 +1,8 @@
 use Rattle.std.specs.Prelude.{◌≡◌, ◌≢◌, ℕ, List, Option}
-use Rattle.text_lines.specs.Lines.{lines_of}
-use Rattle.text_lines.specs.Chains.{LeadsBy, IsFaultOf}
-use Rattle.text_lines.specs.Grammar.{IsFaultyFormBy, AddsFormBy, AddsLineBy, IsFaultyLineBy}
-use Rattle.text_lines.specs.Grammar.{bytes_cause_by}
+use Rattle.common_lines.specs.Lines.{lines_of}
+use Rattle.common_lines.specs.Chains.{LeadsBy, IsFaultOf}
+use Rattle.common_lines.specs.Grammar.{IsFaultyFormBy, AddsFormBy, AddsLineBy, IsFaultyLineBy}
+use Rattle.common_lines.specs.Grammar.{bytes_cause_by}
 use Rattle.net_script.specs.declared.cause.ScriptCause.{ScriptCause}
 use Rattle.net_script.specs.declared.cause.ScriptCause.TheVariants.{NotAscii, BadHeader, UnknownWord}
 use Rattle.net_script.specs.declared.cause.ScriptCause.TheVariants.{AfterEnd, LineTooLong, NoEnd}

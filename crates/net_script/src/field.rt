@@ -5,22 +5,22 @@ ghost use Rattle.std.specs.Option.{option_map};
 ghost use Rattle.an_base.specs.declared.limits.TheConstants.{LAST_PORT, MOST_NUMBER, MOST_SWITCHES};
 ghost use Rattle.net_graph.specs.Wires.{uids, used_ports, a_end, b_end};
 ghost use Rattle.net_script.specs.declared.cause.ScriptCause.TheVariants.{BadName, NoSuchName, PortUsed, NoLink};
-ghost use Rattle.text_lines.specs.Words.{number_value};
+ghost use Rattle.common_lines.specs.Words.{number_value};
 ghost use Rattle.net_names.specs.Words.{is_name, uid_value};
-ghost use Rattle.text_lines.specs.Faults.{first_of, unless};
+ghost use Rattle.common_lines.specs.Faults.{first_of, unless};
 ghost use Rattle.net_script.specs.Commands.{is_used, is_linked, last_time};
 ghost use Rattle.net_script.specs.Scripts.{IsNewName, lives_of};
 ghost use Rattle.net_script.specs.Rules.{number_cause, port_cause, new_name_cause, new_uid_cause, known_cause, had_cause, time_cause, lives_cause, commands_cause, is_taken, is_free, place, had_of};
-ghost use Rattle.text_lines.specs.Faults.{IsField, IsGoodField, IsTest};
+ghost use Rattle.common_lines.specs.Faults.{IsField, IsGoodField, IsTest};
 
 use crate::cause::ScriptCause;
 use crate::script::Script;
 use an_base::limits::MOST_SWITCHES;
 use an_base::place::Place;
 use an_base::port::Port;
+use common_lines::word::{is_number, number_between, number_of};
 use net_graph::wiring::{Far, LinkAt, Wiring};
 use net_names::word::{is_name, uid_of};
-use text_lines::word::{is_number, number_between, number_of};
 
 // The most commands.
 const MOST_COMMANDS: usize = 10_000;

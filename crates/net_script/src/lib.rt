@@ -1,7 +1,7 @@
 //! Scripts: the text that says which switches a network has, how their ports are linked, which hosts
 //! are on them, within which limits it runs, and what happens to it when.
 //!
-//! It stands on `an_base`, `net_graph` and `text_lines`. Its contract: `reader::read` answers a script
+//! It stands on `an_base`, `net_graph` and `common_lines`. Its contract: `reader::read` answers a script
 //! only if the bytes are the text of one, and else the first faulty line with its first cause; want of
 //! memory may come in place of either. No bytes are the text of two scripts.
 #![tactic(auto)]

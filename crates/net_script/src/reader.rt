@@ -4,17 +4,17 @@ ghost use Rattle.std.specs.Prelude.{◌≡◌, ◌<◌, ◌-◌, ◌^◌, [], �
 ghost use Rattle.net_script.specs.declared.draft.Part.TheVariants.{Header};
 ghost use Rattle.net_script.specs.Drafts.{start};
 ghost use Rattle.net_script.specs.Texts.{IsText, Adds, IsFaulty, AddsWords, IsFaultyWords};
-ghost use Rattle.text_lines.specs.Stops.{IsStep};
+ghost use Rattle.common_lines.specs.Stops.{IsStep};
 ghost use Rattle.net_script.specs.Steps.{IsRefusal};
 
 use crate::cause::ScriptCause;
 use crate::draft::{Draft, Part};
 use crate::form::{ScriptStop, read_form};
 use crate::script::Script;
+use common_lines::line::{MOST_LINE, are_line_bytes, first_line, words};
+use common_lines::stop::{Refusal, Stop};
+use common_lines::word::is;
 use std::alloc::Global;
-use text_lines::line::{MOST_LINE, are_line_bytes, first_line, words};
-use text_lines::stop::{Refusal, Stop};
-use text_lines::word::is;
 
 /// Why bytes were not read as a script: the first faulty line with its first cause, or no memory.
 pub type ReadRefusal = Refusal<ScriptCause>;

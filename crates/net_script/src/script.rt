@@ -9,13 +9,13 @@ ghost use Rattle.net_names.specs.Names.{place_of};
 use crate::command::{Command, is_restart};
 use crate::setting::{DEFAULT_BLOCKS, DEFAULT_EVENTS, DEFAULT_TICKS, Limits, Setting};
 use an_base::event::Event;
-use common_values::memory::OutOfMemory;
 use an_base::place::Place;
+use common_values::memory::OutOfMemory;
 use common_values::text::Word;
 use net_graph::wiring::{HostOn, LinkAt, SwitchAt, Wiring};
+use net_names::names::Names;
 use std::alloc::Global;
 use std::marker::Model;
-use net_names::names::Names;
 
 /// A script: switches and hosts with their names, the links between their ports, commands in the
 /// order of their times, and settings.

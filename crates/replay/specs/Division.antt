@@ -1,7 +1,7 @@
 -- An input with a script and a journal: where the one ends and the other begins.
 
 use Rattle.std.specs.Prelude.{◌≡◌, ◌==◌, ◌&&◌, ℕ, Bool, List, [], ◌∷◌, ◌++◌, length, nat_lt, slice_index_or, codes, bytes_eq, if◌then◌else◌}
-use Rattle.text_lines.specs.Lines.{lines_of, words_of}
+use Rattle.common_lines.specs.Lines.{lines_of, words_of}
 
 -- whether a line has words
 abbrev pub has_words : List ℕ → Bool

@@ -7,9 +7,9 @@ use Rattle.journal_cause.specs.declared.cause.JournalCause.{JournalCause}
 use Rattle.journal_cause.specs.declared.cause.JournalCause.TheVariants as cause
 use Rattle.journal.specs.Steps.{JournalRefusal}
 use Rattle.journal.specs.Texts.{IsFault, IsJournal}
-use Rattle.text_lines.specs.declared.stop.Refusal.TheVariants as stopped
-use Rattle.fabric_state.specs.Lawful.{is_lawful}
-use Rattle.fabric_world.specs.Histories.{HistoryOf, IsFirstFault, IsLawful, end_of, fabric_of}
+use Rattle.common_lines.specs.declared.stop.Refusal.TheVariants as stopped
+use Rattle.net_state.specs.Lawful.{is_lawful}
+use Rattle.net_world.specs.Histories.{HistoryOf, IsFirstFault, IsLawful, end_of, fabric_of}
 use Rattle.fabric_book.specs.Nets.{NetOf}
 use Rattle.replay.specs.declared.refusal.ReplayRefusal.{ReplayRefusal}
 use Rattle.replay.specs.declared.refusal.ReplayRefusal.TheVariants as refusal

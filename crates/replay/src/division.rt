@@ -4,12 +4,12 @@
 //! depend on what its script says.
 
 ghost use Rattle.std.specs.Prelude.{◌≡◌, ◌<◌, ◌∷◌, [], ℕ, List, length, map, take, IfNone, IfOk, IfSome};
-ghost use Rattle.text_lines.specs.Lines.{is_blank, lines_of, without_comment, words_of};
+ghost use Rattle.common_lines.specs.Lines.{is_blank, lines_of, without_comment, words_of};
 ghost use Rattle.replay.specs.Division.{IsBack, IsDivision, after_end, from_words, has_words, is_end_line};
 
+use common_lines::line::{first_line, first_of};
 use common_values::memory::OutOfMemory;
 use std::alloc::Global;
-use text_lines::line::{first_line, first_of};
 
 // What stands before the first `#`.
 fn before_comment(line: &[u8]) -> &[u8]

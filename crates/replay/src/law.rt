@@ -3,8 +3,8 @@
 ghost use Rattle.std.specs.Prelude.{◌≡◌, List, ℕ};
 ghost use Rattle.an_base.specs.declared.event.Event.{Event};
 ghost use Rattle.net_script.specs.Scripts.{ScriptOf};
-ghost use Rattle.fabric_state.specs.declared.ending.Ending.{Ending};
-ghost use Rattle.fabric_world.specs.Histories.{IsLegal};
+ghost use Rattle.net_state.specs.declared.ending.Ending.{Ending};
+ghost use Rattle.net_world.specs.Histories.{IsLegal};
 ghost use Rattle.replay.specs.Division.{IsDivision};
 ghost use Rattle.replay.specs.Replays.{IsRefusal};
 ghost use Rattle.replay.specs.declared.refusal.ReplayRefusal.{ReplayRefusal};

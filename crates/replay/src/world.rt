@@ -4,9 +4,9 @@ ghost use Rattle.std.specs.Prelude.{◌≡◌, ◌∷◌, ◌++◌, [], List, �
 ghost use Rattle.an_base.specs.declared.event.Event.{Event};
 ghost use Rattle.net_script.specs.Scripts.{IsScript, ScriptOf};
 ghost use Rattle.journal.specs.Reading.{HasRead};
-ghost use Rattle.fabric_world.specs.Histories.{IsLawful, IsLegal, world_of};
-ghost use Rattle.fabric_world.specs.Lines.{lines_of};
-ghost use Rattle.fabric_settling.specs.Claims.{HoldsAndSettles};
+ghost use Rattle.net_world.specs.Histories.{IsLawful, IsLegal, world_of};
+ghost use Rattle.net_world.specs.Lines.{lines_of};
+ghost use Rattle.net_settling.specs.Claims.{HoldsAndSettles};
 ghost use Rattle.fabric_book.specs.Nets.{history_of, with_step};
 ghost use Rattle.replay.specs.Replays.{HasMade, HasNoEnd, IfIllegal, IsNoReplay, IsRefusal, IsUnlawfulNext, line_after};
 
@@ -14,10 +14,10 @@ use crate::refusal::ReplayRefusal;
 use an_base::event::{Event, Journal};
 use fabric_book::lines::Lines;
 use fabric_book::net::{Net, StepRefusal};
-use fabric_state::ending::Ending;
 use journal::reader::Reader;
 use journal_cause::cause::JournalCause;
 use net_script::script::Script;
+use net_state::ending::Ending;
 use std::alloc::Global;
 use std::marker::Model;
 
@@ -28,7 +28,7 @@ pub struct World {
 }
 
 impl Model for World {
-    ghost use Rattle.fabric_state.specs.declared.ending.Ending.{Ending};
+    ghost use Rattle.net_state.specs.declared.ending.Ending.{Ending};
 
     ghost Value = { Ending };
 

@@ -8,7 +8,7 @@ use Rattle.std.specs.Option.{option_map, option_map_or, option_and_then}
 use Rattle.an_base.specs.declared.event.Event.{Event}
 use Rattle.an_base.specs.declared.event.Event.TheVariants.{Send, Move}
 use Rattle.net_graph.specs.declared.wiring.HostOn.{HostOn}
-use Rattle.text_lines.specs.Lines.{line_text}
+use Rattle.common_lines.specs.Lines.{line_text}
 use Rattle.net_script.specs.Scripts.{ScriptOf}
 use Rattle.journal.specs.Texts.{IsJournal}
 use Rattle.host_traffic.specs.declared.hop.Hop.{Hop}
@@ -17,9 +17,9 @@ use Rattle.host_traffic.specs.Packets.{packet_of}
 use Rattle.host_names.specs.declared.choice.Choice.{Choice}
 use Rattle.host_names.specs.declared.choice.Choice.TheVariants.{Known, Broadcast}
 use Rattle.host_names.specs.Caches.{ArrivalOf, choice_of, kept_of}
-use Rattle.fabric_state.specs.Fabric.{FabricOf, no_host, table_at}
-use Rattle.fabric_state.specs.Effects.{address_of, hop_of}
-use Rattle.fabric_world.specs.World.{world_after}
+use Rattle.net_state.specs.Fabric.{FabricOf, no_host, table_at}
+use Rattle.net_state.specs.Effects.{address_of, hop_of}
+use Rattle.net_world.specs.World.{world_after}
 use Rattle.report.specs.Events.{HasLegalEnd, host_text}
 use Rattle.report.specs.Moments.{Moment, moments}
 

@@ -14,15 +14,15 @@ use Rattle.wire_set.specs.declared.side.Loss.{Loss}
 use Rattle.wire_set.specs.declared.side.Loss.TheVariants as loss
 use Rattle.host_traffic.specs.declared.hop.DropCause.{DropCause}
 use Rattle.host_traffic.specs.declared.hop.DropCause.TheVariants as cause
-use Rattle.fabric_state.specs.declared.ending.Ending.{Ending}
-use Rattle.fabric_state.specs.declared.ending.Ending.TheVariants as ending
-use Rattle.fabric_state.specs.Fabric.{FabricOf}
-use Rattle.fabric_state.specs.declared.line.Line.{Line}
-use Rattle.fabric_state.specs.declared.line.Line.TheVariants as line
-use Rattle.fabric_world.specs.World.{WorldOf, begun, step, world_after}
-use Rattle.fabric_world.specs.Lines.{lines_of, rows_after}
-use Rattle.fabric_world.specs.Histories.{IsLegal, end_of}
-use Rattle.fabric_settling.specs.Claims.{HoldsAndSettles}
+use Rattle.net_state.specs.declared.ending.Ending.{Ending}
+use Rattle.net_state.specs.declared.ending.Ending.TheVariants as ending
+use Rattle.net_state.specs.Fabric.{FabricOf}
+use Rattle.net_state.specs.declared.line.Line.{Line}
+use Rattle.net_state.specs.declared.line.Line.TheVariants as line
+use Rattle.net_world.specs.World.{WorldOf, begun, step, world_after}
+use Rattle.net_world.specs.Lines.{lines_of, rows_after}
+use Rattle.net_world.specs.Histories.{IsLegal, end_of}
+use Rattle.net_settling.specs.Claims.{HoldsAndSettles}
 use Rattle.journal.specs.Texts.{IsJournal}
 use Rattle.row_text.specs.Names.{life_text}
 use Rattle.row_text.specs.Rows.{row_form}

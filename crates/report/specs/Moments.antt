@@ -6,12 +6,12 @@ use Rattle.std.specs.Option.{option_map_or}
 use Rattle.an_base.specs.declared.event.Event.{Event}
 use Rattle.net_script.specs.Scripts.{ScriptOf}
 use Rattle.journal.specs.Texts.{IsJournal}
-use Rattle.fabric_state.specs.declared.ending.Ending.{Ending}
-use Rattle.fabric_state.specs.declared.line.Line.{Line}
-use Rattle.fabric_world.specs.Histories.{IsLegal}
-use Rattle.fabric_world.specs.Lines.{lines_of}
-use Rattle.fabric_world.specs.World.{world_after}
-use Rattle.fabric_settling.specs.Claims.{HoldsAndSettles}
+use Rattle.net_state.specs.declared.ending.Ending.{Ending}
+use Rattle.net_state.specs.declared.line.Line.{Line}
+use Rattle.net_world.specs.Histories.{IsLegal}
+use Rattle.net_world.specs.Lines.{lines_of}
+use Rattle.net_world.specs.World.{world_after}
+use Rattle.net_settling.specs.Claims.{HoldsAndSettles}
 use Rattle.fabric_book.specs.Nets.{NetOf}
 use Rattle.replay.specs.Replays.{HasMade}
 

@@ -7,12 +7,12 @@ use Rattle.net_graph.specs.declared.wiring.HostOn.{HostOn}
 use Rattle.net_script.specs.Scripts.{IsScript, ScriptOf}
 use Rattle.host_names.specs.declared.choice.Choice.{Choice}
 use Rattle.host_names.specs.Caches.{ArrivalOf, choice_of, kept_of, with_arrival}
-use Rattle.fabric_state.specs.Fabric.{FabricOf}
-use Rattle.fabric_world.specs.Histories.{IsLawful}
-use Rattle.fabric_world.specs.Lines.{lines_of}
-use Rattle.fabric_world.specs.World.{world_after}
-use Rattle.fabric_state.specs.declared.line.Line.{Line}
-use Rattle.fabric_state.specs.declared.line.Line.TheVariants as line
+use Rattle.net_state.specs.Fabric.{FabricOf}
+use Rattle.net_world.specs.Histories.{IsLawful}
+use Rattle.net_world.specs.Lines.{lines_of}
+use Rattle.net_world.specs.World.{world_after}
+use Rattle.net_state.specs.declared.line.Line.{Line}
+use Rattle.net_state.specs.declared.line.Line.TheVariants as line
 use Rattle.report.specs.declared.naming.Traced.{Traced}
 use Rattle.report.specs.Beliefs.{address_at, address_in, arrivals_of, beliefs_of, fabric_after, first_move, host_in, is_known}
 use Rattle.report.specs.Beliefs.{senders}

@@ -3,11 +3,11 @@
 use Rattle.std.specs.Prelude.{◌≡◌, ◌≢◌, ◌+◌, ◌<◌, ℕ, List, [], ◌∷◌, ◌++◌, codes, length, map, slice_index_or, true}
 use Rattle.an_base.specs.declared.event.Event.{Event}
 use Rattle.net_script.specs.Scripts.{IsScript, ScriptOf}
-use Rattle.fabric_state.specs.Lawful.{is_lawful}
-use Rattle.fabric_state.specs.declared.line.PlacedLine.{PlacedLine}
-use Rattle.fabric_world.specs.Accounts.{AccountOf, gathered, loaded_rows, placed_lines}
-use Rattle.fabric_world.specs.Histories.{AreLawful}
-use Rattle.fabric_world.specs.World.{WorldOf, begun, world_after}
+use Rattle.net_state.specs.Lawful.{is_lawful}
+use Rattle.net_state.specs.declared.line.PlacedLine.{PlacedLine}
+use Rattle.net_world.specs.Accounts.{AccountOf, gathered, loaded_rows, placed_lines}
+use Rattle.net_world.specs.Histories.{AreLawful}
+use Rattle.net_world.specs.World.{WorldOf, begun, world_after}
 use Rattle.fabric_book.specs.declared.account.Account.{Account}
 use Rattle.report.specs.Events.{CourseOf, course_after, events_text}
 

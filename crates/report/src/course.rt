@@ -8,8 +8,8 @@ ghost use Rattle.report.specs.Retellings.{Comes};
 
 use an_base::event::Event;
 use an_base::life::Life;
-use common_values::memory::OutOfMemory;
 use an_base::place::Place;
+use common_values::memory::OutOfMemory;
 use net_script::script::Script;
 use std::alloc::Global;
 use std::marker::Model;

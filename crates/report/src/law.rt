@@ -4,7 +4,7 @@ ghost use Rattle.std.specs.Prelude.{◌≡◌, ◌∷◌, ◌++◌, length, List
 ghost use Rattle.an_base.specs.declared.event.Event.{Event};
 ghost use Rattle.an_base.specs.declared.event.Event.TheVariants.{Send};
 ghost use Rattle.net_script.specs.Scripts.{ScriptOf};
-ghost use Rattle.fabric_world.specs.Histories.{IsLawful};
+ghost use Rattle.net_world.specs.Histories.{IsLawful};
 ghost use Rattle.report.specs.Beliefs.{Belief, belief_of, beliefs_of, fabric_after, senders};
 
 /// Of each packet that is sent in a history there is one belief, in turn: where its sender would send it by

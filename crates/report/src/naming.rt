@@ -4,27 +4,27 @@ ghost use Rattle.std.specs.Prelude.{◌≡◌, ◌<◌, ◌≤◌, ◌+◌, ◌-
 ghost use Rattle.an_base.specs.declared.event.Event.{Event};
 ghost use Rattle.net_script.specs.Scripts.{ScriptOf};
 ghost use Rattle.replay.specs.Replays.{IfIllegal, IsNoReplay};
-ghost use Rattle.text_lines.specs.Lines.{line_text};
+ghost use Rattle.common_lines.specs.Lines.{line_text};
 ghost use Rattle.report.specs.Beliefs.{AreNamesIn, address_in, belief_line, belief_text, counts_by, host_in, is_known};
 ghost use Rattle.report.specs.Remembering.{CameUntil, KeepBeliefs, Meets, arrival_in, choice_at, delivery_in};
 ghost use Rattle.report.specs.Remembering.{own_address, source_with, with_arrival_at, with_delivery, with_source};
 
 use crate::listener::{Listener, tell};
 use an_base::event::Event;
+use common_lines::spelling::{decimal, push_line};
 use common_values::memory::OutOfMemory;
 use fabric_book::net::Net;
-use fabric_state::ending::Ending;
-use fabric_state::fabric::Fabric;
-use fabric_state::host::host_at;
-use fabric_state::line::Line;
 use host_names::cache::Cache;
 use host_names::choice::Choice;
 use net_graph::wiring::HostOn;
+use net_names::names::Names;
 use net_script::script::Script;
+use net_state::ending::Ending;
+use net_state::fabric::Fabric;
+use net_state::host::host_at;
+use net_state::line::Line;
 use replay::refusal::ReplayRefusal;
 use std::alloc::Global;
-use net_names::names::Names;
-use text_lines::spelling::{decimal, push_line};
 
 // A packet that was sent: the place of the host that sent it, and the address from which it comes, once it has
 // moved.
@@ -301,7 +301,7 @@ impl<'a> Believing<'a> {
 
 impl Listener for Believing<'_> {
     ghost use Rattle.std.specs.Prelude.{[]};
-    ghost use Rattle.text_lines.specs.Lines.{line_text};
+    ghost use Rattle.common_lines.specs.Lines.{line_text};
     ghost use Rattle.report.specs.Beliefs.{belief_text, beliefs_of, counts_words};
     ghost use Rattle.report.specs.Remembering.{KeepBeliefs};
 

@@ -1,8 +1,8 @@
 //! The report of a journal.
 
 ghost use Rattle.std.specs.Prelude.{◌≡◌, ◌<◌, ◌-◌, ◌^◌, length, IfErr, IfOk, OnOk, Err};
-ghost use Rattle.fabric_world.specs.World.{world_after};
-ghost use Rattle.fabric_settling.specs.Claims.{HoldsAndSettles};
+ghost use Rattle.net_world.specs.World.{world_after};
+ghost use Rattle.net_settling.specs.Claims.{HoldsAndSettles};
 ghost use Rattle.outside.specs.Told.{Failed, Gains, GainsFront, IsNoLess};
 ghost use Rattle.replay.specs.Replays.{IfIllegal, IsNoReplay, IsRefusal};
 ghost use Rattle.replay.specs.declared.refusal.ReplayRefusal.TheVariants as refusal;
@@ -16,8 +16,8 @@ use an_base::event::Journal;
 use an_base::life::Life;
 use common_values::memory::OutOfMemory;
 use common_values::text::Word;
-use fabric_state::ending::Ending;
 use net_script::script::Script;
+use net_state::ending::Ending;
 use outside::all::{WriteFault, write_all};
 use outside::sink::Sink;
 use replay::refusal::ReplayRefusal;

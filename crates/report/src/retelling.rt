@@ -3,13 +3,13 @@
 ghost use Rattle.std.specs.Prelude.{◌≡◌, ◌∷◌, ◌++◌, [], List, IfOk, IfSome, IsNone, OnOk, codes, map};
 ghost use Rattle.an_base.specs.Rows.{RowOf};
 ghost use Rattle.an_base.specs.declared.event.Event.{Event};
-ghost use Rattle.fabric_state.specs.declared.line.Line.{Line};
-ghost use Rattle.fabric_state.specs.declared.line.PlacedLine.{PlacedLine};
-ghost use Rattle.fabric_world.specs.Accounts.{loaded_rows, placed};
-ghost use Rattle.fabric_world.specs.Lines.{rows_after};
-ghost use Rattle.fabric_world.specs.Histories.{IsLegal, owner_of};
-ghost use Rattle.fabric_world.specs.World.{WorldOf, step, world_after};
-ghost use Rattle.fabric_settling.specs.Claims.{HoldsAndSettles};
+ghost use Rattle.net_state.specs.declared.line.Line.{Line};
+ghost use Rattle.net_state.specs.declared.line.PlacedLine.{PlacedLine};
+ghost use Rattle.net_world.specs.Accounts.{loaded_rows, placed};
+ghost use Rattle.net_world.specs.Lines.{rows_after};
+ghost use Rattle.net_world.specs.Histories.{IsLegal, owner_of};
+ghost use Rattle.net_world.specs.World.{WorldOf, step, world_after};
+ghost use Rattle.net_settling.specs.Claims.{HoldsAndSettles};
 ghost use Rattle.fabric_book.specs.Accounts.{AreAccounts};
 ghost use Rattle.report.specs.Events.{IsReport, all_told, course_after, report_text};
 ghost use Rattle.report.specs.Retellings.{HasCome, IsNotNext, IsRetelling, told_in};
@@ -17,12 +17,12 @@ ghost use Rattle.report.specs.Retellings.{HasCome, IsNotNext, IsRetelling, told_
 use crate::reporter::Report;
 use crate::telling::{Telling, first_line};
 use an_base::event::{Event, Journal};
-use common_values::memory::OutOfMemory;
 use an_base::row::Row;
+use common_values::memory::OutOfMemory;
 use fabric_book::account::Account;
-use fabric_state::ending::Ending;
-use fabric_state::line::{Line, PlacedLine};
 use net_script::script::Script;
+use net_state::ending::Ending;
+use net_state::line::{Line, PlacedLine};
 use std::alloc::Global;
 use std::marker::Model;
 
@@ -49,7 +49,7 @@ struct Left<'a> {
 
 impl<'a> Model for Left<'a> {
     ghost use Rattle.std.specs.Prelude.{map};
-    ghost use Rattle.fabric_world.specs.Accounts.{AccountOf};
+    ghost use Rattle.net_world.specs.Accounts.{AccountOf};
 
     ghost Value = { AccountOf };
 

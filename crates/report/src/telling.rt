@@ -7,31 +7,31 @@ ghost use Rattle.std.specs.Fmt.{decimal};
 ghost use Rattle.an_base.specs.declared.event.Event.{Event};
 ghost use Rattle.net_script.specs.Scripts.{ScriptOf};
 ghost use Rattle.row_text.specs.Names.{life_text};
-ghost use Rattle.fabric_world.specs.Lines.{rows_after};
-ghost use Rattle.fabric_world.specs.Histories.{fabric_of};
+ghost use Rattle.net_world.specs.Lines.{rows_after};
+ghost use Rattle.net_world.specs.Histories.{fabric_of};
 ghost use Rattle.fabric_book.specs.Nets.{history_of};
 ghost use Rattle.report.specs.Retellings.{Comes, HasCome};
 ghost use Rattle.report.specs.Events.{all_told, course_after, deliver_words, drop_word, ending_words, has_line, host_text};
 ghost use Rattle.report.specs.Events.{line_of_end, loss_words, packet_words, peer_words, place_words, rows_in_use};
 ghost use Rattle.report.specs.Events.{rows_text, spaced, state_word, switch_text, told_text, told_words};
 ghost use Rattle.wire_set.specs.declared.side.Loss.TheVariants as loss;
-ghost use Rattle.fabric_state.specs.declared.ending.Ending.TheVariants as ending;
-ghost use Rattle.fabric_state.specs.declared.line.Line.TheVariants as told;
+ghost use Rattle.net_state.specs.declared.ending.Ending.TheVariants as ending;
+ghost use Rattle.net_state.specs.declared.line.Line.TheVariants as told;
 
 use crate::course::Course;
 use crate::listener::Listener;
 use an_base::event::Event;
 use an_base::life::{End, Life};
-use common_values::memory::OutOfMemory;
 use an_base::place::Place;
 use an_base::port::{Port, PortState};
 use an_base::row::Row;
+use common_values::memory::OutOfMemory;
 use fabric_book::net::Net;
-use fabric_state::ending::Ending;
-use fabric_state::line::Line;
 use host_traffic::hop::DropCause;
 use itoa::Buffer;
 use net_script::script::Script;
+use net_state::ending::Ending;
+use net_state::line::Line;
 use row_text::decimals::Decimals;
 use row_text::piece::push_life;
 use row_text::row::push_row_line;
@@ -721,7 +721,7 @@ fn rows_after<'a>(net: &'a Net, event: &Event) -> &'a [Row]
 
 impl Listener for Telling<'_> {
     ghost use Rattle.std.specs.Prelude.{codes};
-    ghost use Rattle.fabric_world.specs.World.{world_after};
+    ghost use Rattle.net_world.specs.World.{world_after};
     ghost use Rattle.report.specs.Events.{course_after, event_text, line_of_end};
     ghost use Rattle.report.specs.Retellings.{HasCome};
 

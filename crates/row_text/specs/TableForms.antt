@@ -1,5 +1,5 @@
 use Rattle.std.specs.Prelude.{ℕ, List, [], ◌∷◌, codes}
-use Rattle.text_lines.specs.Lines.{forms_text_by}
+use Rattle.common_lines.specs.Lines.{forms_text_by}
 
 -- The forms of the lines of tables.
 

@@ -7,9 +7,9 @@ use an_base::entry::Entry;
 use an_base::life::Life;
 use common_values::text::push_decimal;
 use net_graph::wiring::SwitchAt;
+use net_names::names::Names;
 use net_script::script::Script;
 use std::alloc::{AllocError, Global};
-use net_names::names::Names;
 
 /// The place of the switch with this identifier.
 pub fn place_of(switches: &[SwitchAt], uid: u64) -> Option<usize>

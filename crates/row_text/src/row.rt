@@ -2,7 +2,7 @@
 
 ghost use Rattle.std.specs.Prelude.{◌≡◌, ◌+◌, ◌*◌, ◌<◌, ◌≤◌, ◌++◌, length, OnOk, vec_len, vec_capacity};
 ghost use Rattle.std.specs.List.{flat_map};
-ghost use Rattle.text_lines.specs.Lines.{line_text};
+ghost use Rattle.common_lines.specs.Lines.{line_text};
 ghost use Rattle.row_text.specs.TableForms.{table_words};
 ghost use Rattle.row_text.specs.Rows.{exits_text, slashed, row_form, member_rows, rows_at};
 ghost use Rattle.row_text.specs.Pieces.{spaced_pair};

@@ -14,9 +14,9 @@ use Rattle.net_script.specs.declared.cause.ScriptCause.{ScriptCause}
 use Rattle.net_script.specs.declared.cause.ScriptCause.TheVariants.{BadNumber, BadName, NameTwice, NoSuchName, PortRange, PortUsed, TooMany, TimesFall, NoLink}
 use Rattle.net_script.specs.declared.command.LinkChange.{LinkChange}
 use Rattle.net_script.specs.declared.command.WireChange.{WireChange}
-use Rattle.text_lines.specs.Words.{is_number, number_value, hex_text}
+use Rattle.common_lines.specs.Words.{is_number, number_value, hex_text}
 use Rattle.net_names.specs.Words.{IsName, is_name}
-use Rattle.text_lines.specs.Faults.{unless}
+use Rattle.common_lines.specs.Faults.{unless}
 use Rattle.net_script.specs.Commands.{IsPort, IsUsedPort, IsWireChange, is_used, is_linked, last_time, link_event, wire_event, most_count}
 use Rattle.net_names.specs.Names.{place_of}
 use Rattle.net_script.specs.Scripts.{ScriptOf, IsNewName, CanAddSwitch, CanAddLink, CanAddHost, lives_of}
@@ -24,9 +24,9 @@ use Rattle.net_script.specs.Rules.{place, is_taken, number_cause, port_cause, ne
 use Rattle.script_text.specs.Canonical.{had_word}
 use Rattle.net_script.proofs.FieldLemmas.{uid_good}
 use Rattle.net_names.proofs.NameLemmas.{place_none, place_at}
-use Rattle.text_lines.proofs.SpellLemmas.{decimal_number, decimal_value, decimal_good, le_test, ge_test, lt_test}
+use Rattle.common_lines.proofs.SpellLemmas.{decimal_number, decimal_value, decimal_good, le_test, ge_test, lt_test}
 use Rattle.net_names.proofs.WordLemmas.{uid_is, uid_value_is}
-use Rattle.text_lines.proofs.FaultLemmas.{unless_good, first_good}
+use Rattle.common_lines.proofs.FaultLemmas.{unless_good, first_good}
 
 -- numbers and ports
 pub number_good : (least most n : ℕ) → n < 2 ^ 64 → least ≤ n → n ≤ most → number_cause least most (decimal n) ≡ None

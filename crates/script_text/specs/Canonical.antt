@@ -14,8 +14,8 @@ use Rattle.net_script.specs.declared.command.WireChange.TheVariants as wire
 use Rattle.net_script.specs.declared.setting.TheConstants.{DEFAULT_TICKS, DEFAULT_EVENTS, DEFAULT_BLOCKS}
 use Rattle.net_script.specs.declared.setting.Setting.{Setting}
 use Rattle.net_script.specs.declared.setting.Setting.TheVariants.{Ticks, Events, Blocks, Epoch, Pace}
-use Rattle.text_lines.specs.Words.{hex_text}
-use Rattle.text_lines.specs.Lines.{lines_text, forms_text_by}
+use Rattle.common_lines.specs.Words.{hex_text}
+use Rattle.common_lines.specs.Lines.{lines_text, forms_text_by}
 use Rattle.net_script.specs.Scripts.{ScriptOf}
 use Rattle.net_script.specs.Forms.{Form, Number, AnyRoutes, SwitchLine, LinkLine, HostLine, ChangesLink}
 use Rattle.net_script.specs.Forms.{ChangesWire, Sends, Restarts, End, form_words, header_words}

@@ -1,7 +1,7 @@
 //! The printer of scripts.
 
 ghost use Rattle.std.specs.Prelude.{◌≡◌, ◌<◌, ◌++◌, [], ◌∷◌, codes, decimal, length, map, OnOk, IfOk, slice_index_or};
-ghost use Rattle.text_lines.specs.Lines.{line_text};
+ghost use Rattle.common_lines.specs.Lines.{line_text};
 ghost use Rattle.net_script.specs.Forms.{form_words};
 ghost use Rattle.net_script.specs.Scripts.{IsScript};
 ghost use Rattle.net_script.specs.Texts.{IsText};
@@ -9,17 +9,17 @@ ghost use Rattle.net_script.specs.Commands.{IsCommand};
 ghost use Rattle.script_text.specs.Canonical.{canonical_text, setting_forms, setting_form, pace_form, routes_form, switch_form, switch_forms, link_form, link_forms, host_form, host_forms, command_form, command_forms, forms_text, spaced_numbers};
 
 use an_base::event::Event;
-use common_values::memory::OutOfMemory;
 use an_base::place::Place;
+use common_lines::spelling::push_line;
+use common_values::memory::OutOfMemory;
 use itoa::Buffer;
 use net_graph::wiring::{HostOn, LinkAt, SwitchAt};
+use net_names::names::Names;
+use net_names::spelling::identifier;
 use net_script::command::Command;
 use net_script::script::Script;
 use net_script::setting::{DEFAULT_BLOCKS, DEFAULT_EVENTS, DEFAULT_TICKS, Setting};
 use std::alloc::Global;
-use net_names::names::Names;
-use net_names::spelling::identifier;
-use text_lines::spelling::push_line;
 
 /// The canonical text of a script: the first line; the settings that differ from their defaults, in
 /// the order `limit ticks`, `limit events`, `limit blocks`, `epoch`, `pace`, `routes any`; the

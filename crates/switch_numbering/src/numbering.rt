@@ -5,8 +5,8 @@ ghost use Rattle.switch_numbering.specs.Numbering.{is_proposed, free, proposals,
 
 use an_base::entry::{Entries, Entry};
 use an_base::limits::MOST_NUMBER;
-use common_values::memory::OutOfMemory;
 use an_base::numbers::Numbers;
+use common_values::memory::OutOfMemory;
 use std::alloc::{AllocError, Global};
 
 // Whether one of the entries proposes this number.

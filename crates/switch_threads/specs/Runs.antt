@@ -5,9 +5,9 @@ use mathlib.Core.Option.{some}
 use lib.ListN.{get_elem?}
 use Rattle.an_base.specs.declared.event.Event.{Event}
 use Rattle.net_script.specs.Scripts.{ScriptOf}
-use Rattle.fabric_state.specs.declared.ending.Ending.{Ending}
-use Rattle.fabric_world.specs.Accounts.{account_of}
-use Rattle.fabric_world.specs.Histories.{owner_of}
+use Rattle.net_state.specs.declared.ending.Ending.{Ending}
+use Rattle.net_world.specs.Accounts.{account_of}
+use Rattle.net_world.specs.Histories.{owner_of}
 use Rattle.fabric_book.specs.Accounts.{HasAccount}
 use Rattle.fabric_book.specs.declared.account.Account.{Account}
 use Rattle.fabric_turn.specs.Calls.{DifferByCalls}

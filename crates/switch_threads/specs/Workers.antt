@@ -8,23 +8,23 @@ use Rattle.switch_core.specs.Bytes.{OutOf}
 use Rattle.switch_core.specs.Kept.{KeptOf, StandsFor}
 use Rattle.switch_core.specs.Steps.{loaded}
 use Rattle.switch_core.specs.Switch.{SwitchOf, note_of}
-use Rattle.fabric_state.specs.declared.ending.Ending.{Ending}
-use Rattle.fabric_state.specs.declared.hand.Hand.{Hand}
-use Rattle.fabric_state.specs.declared.hand.Hand.TheVariants as hand
-use Rattle.fabric_state.specs.declared.work.Work.{Work}
-use Rattle.fabric_state.specs.declared.work.Work.TheVariants as work
-use Rattle.fabric_state.specs.Fabric.{held_bytes, is_full_at, station}
-use Rattle.fabric_world.specs.declared.ask.Done.{Done}
-use Rattle.fabric_state.specs.declared.line.Line.{Line}
-use Rattle.fabric_world.specs.Accounts.{account_of}
-use Rattle.fabric_world.specs.World.{WorldOf, handled, start_of, world_after}
-use Rattle.fabric_world.specs.Histories.{end_of, owner_of}
-use Rattle.fabric_world.specs.Turns.{IsDone, IsToLoad}
+use Rattle.net_state.specs.declared.ending.Ending.{Ending}
+use Rattle.net_state.specs.declared.hand.Hand.{Hand}
+use Rattle.net_state.specs.declared.hand.Hand.TheVariants as hand
+use Rattle.net_state.specs.declared.work.Work.{Work}
+use Rattle.net_state.specs.declared.work.Work.TheVariants as work
+use Rattle.net_state.specs.Fabric.{held_bytes, is_full_at, station}
+use Rattle.net_world.specs.declared.ask.Done.{Done}
+use Rattle.net_state.specs.declared.line.Line.{Line}
+use Rattle.net_world.specs.Accounts.{account_of}
+use Rattle.net_world.specs.World.{WorldOf, handled, start_of, world_after}
+use Rattle.net_world.specs.Histories.{end_of, owner_of}
+use Rattle.net_world.specs.Turns.{IsDone, IsToLoad}
 use Rattle.fabric_book.specs.Accounts.{IsAccount}
 use Rattle.fabric_book.specs.Nets.{IsStarted, IsSwitchKept, PowerOf, power_of, start_with}
 use Rattle.fabric_book.specs.Told.{hand_lines}
 use Rattle.fabric_book.specs.declared.account.Account.{Account}
-use Rattle.fabric_world.specs.declared.ask.Parcel.{Parcel}
+use Rattle.net_world.specs.declared.ask.Parcel.{Parcel}
 use Rattle.fabric_turn.specs.History.{own_entries}
 use Rattle.fabric_turn.specs.declared.view.View.{View}
 use Rattle.switch_threads.specs.declared.desk.Desk.{Desk}

@@ -2,8 +2,8 @@
 
 ghost use Rattle.std.specs.Prelude.{◌≡◌, ◌+◌, ◌<◌, [], All, Some, length, IfOk, IfSome, OnOk, vec_len};
 ghost use Rattle.net_script.specs.Scripts.{IsScript, ScriptOf};
-ghost use Rattle.fabric_world.specs.Histories.{IsLegal, end_of};
-ghost use Rattle.fabric_settling.specs.Claims.{HoldsAndSettles};
+ghost use Rattle.net_world.specs.Histories.{IsLegal, end_of};
+ghost use Rattle.net_settling.specs.Claims.{HoldsAndSettles};
 ghost use Rattle.fabric_book.specs.Accounts.{AreAccounts};
 ghost use Rattle.fabric_turn.specs.Names.{turnstile_id};
 ghost use Rattle.fabric_turn.specs.Seats.{HasAllNumbers};
@@ -15,14 +15,14 @@ use crate::gate::Gate;
 use crate::rousing::Roused;
 use crate::shift::{FIRST, Hall, Shift, Then, party_after};
 use crate::worker::Worker;
-use common_values::memory::OutOfMemory;
 use an_base::place::Place;
+use common_values::memory::OutOfMemory;
 use fabric_book::account::Account;
 use fabric_book::book::Book;
 use fabric_book::solo::Run;
-use fabric_state::ending::Ending;
 use fabric_turn::{Seat, Turnstile};
 use net_script::script::Script;
+use net_state::ending::Ending;
 use std::alloc::Global;
 use std::sync::Wait;
 use std::thread::{Threads, for_each_chunk_mut, join_mut};

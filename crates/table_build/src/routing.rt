@@ -5,8 +5,8 @@ ghost use Rattle.an_base.specs.Numbers.{AreNumbers};
 ghost use Rattle.table_build.specs.Routing.{ArePlaces, IsRouting, place_at};
 
 use crate::link::{Links, links_of};
-use common_values::memory::OutOfMemory;
 use an_base::numbers::Numbers;
+use common_values::memory::OutOfMemory;
 use std::alloc::Global;
 use std::marker::Model;
 use topo_graph::graph::Graph;

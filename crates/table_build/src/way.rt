@@ -10,9 +10,9 @@ ghost use Rattle.table_build.specs.Tables.{AreWays, IsWay};
 use crate::best::Bests;
 use crate::exit::exits;
 use crate::routing::Routing;
-use common_values::memory::OutOfMemory;
 use an_base::numbers::Numbers;
 use an_base::row::Exits;
+use common_values::memory::OutOfMemory;
 use std::alloc::Global;
 use topo_graph::graph::Graph;
 

@@ -10,8 +10,8 @@ use Rattle.net_script.specs.declared.cause.ScriptCause.{ScriptCause}
 use Rattle.net_script.specs.declared.cause.ScriptCause.TheVariants.{BadNumber, NameTwice, PortRange}
 use Rattle.net_script.specs.declared.cause.ScriptCause.TheVariants.{TablesShort}
 use Rattle.table_script.specs.declared.table_draft.NumberAt.{NumberAt}
-use Rattle.text_lines.specs.Words.{is_number, is_number_in, number_value}
-use Rattle.text_lines.specs.Faults.{unless, first_of}
+use Rattle.common_lines.specs.Words.{is_number, is_number_in, number_value}
+use Rattle.common_lines.specs.Faults.{unless, first_of}
 use Rattle.net_script.specs.Scripts.{ScriptOf}
 use Rattle.net_script.specs.Rules.{place, known_cause, number_cause}
 use Rattle.table_script.specs.Tables.{TablesOf, IsRowOf, AreRowsApart, are_joined}

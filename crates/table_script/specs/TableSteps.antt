@@ -3,7 +3,7 @@ use Rattle.std.specs.Str.{bytes_eq}
 use Rattle.net_script.specs.declared.cause.ScriptCause.{ScriptCause}
 use Rattle.net_script.specs.declared.draft.Part.TheVariants.{After}
 use Rattle.table_script.specs.declared.table_reader.Reading.{Reading}
-use Rattle.text_lines.specs.Stops.{IsRefusalBy, ReadsFormBy}
+use Rattle.common_lines.specs.Stops.{IsRefusalBy, ReadsFormBy}
 use Rattle.net_script.specs.Steps.{ReadRefusal}
 use Rattle.net_script.specs.Scripts.{ScriptOf}
 use Rattle.table_script.specs.Tables.{AreLabels}

@@ -1,7 +1,7 @@
 use Rattle.std.specs.Prelude.{◌≡◌, ℕ, Bool, true, false, List, length}
-use Rattle.text_lines.specs.Lines.{lines_of}
-use Rattle.text_lines.specs.Chains.{LeadsBy, IsFaultOf}
-use Rattle.text_lines.specs.Grammar.{IsFaultyFormBy, AddsFormBy, AddsLineBy, IsFaultyLineBy}
+use Rattle.common_lines.specs.Lines.{lines_of}
+use Rattle.common_lines.specs.Chains.{LeadsBy, IsFaultOf}
+use Rattle.common_lines.specs.Grammar.{IsFaultyFormBy, AddsFormBy, AddsLineBy, IsFaultyLineBy}
 use Rattle.net_script.specs.declared.cause.ScriptCause.{ScriptCause}
 use Rattle.net_script.specs.declared.cause.ScriptCause.TheVariants.{UnknownWord, AfterEnd, NoEnd}
 use Rattle.net_script.specs.declared.draft.Draft.{Draft}

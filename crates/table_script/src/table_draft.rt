@@ -4,10 +4,10 @@ ghost use Rattle.std.specs.Prelude.{◌≡◌, ◌<◌, ◌++◌, [], ◌∷◌,
 ghost use Rattle.table_script.specs.TableDrafts.{height_of, no_tables};
 ghost use Rattle.table_script.specs.TableRules.{is_numbered, is_labelled, is_entered, number_of};
 
-use common_values::memory::OutOfMemory;
 use an_base::place::Place;
 use an_base::port::Port;
 use an_base::row::Row;
+use common_values::memory::OutOfMemory;
 use std::alloc::Global;
 use std::marker::Model;
 

@@ -6,15 +6,15 @@ ghost use Rattle.std.specs.List.{slice_split, list_all, range_with_len};
 ghost use Rattle.std.specs.Str.{bytes_eq};
 ghost use Rattle.net_script.specs.declared.cause.ScriptCause.TheVariants.{BadNumber};
 ghost use Rattle.net_script.specs.Rules.{number_cause};
-ghost use Rattle.text_lines.specs.Words.{is_number, number_value};
-ghost use Rattle.text_lines.specs.Faults.{unless};
-ghost use Rattle.text_lines.specs.Lines.{parts_of};
+ghost use Rattle.common_lines.specs.Words.{is_number, number_value};
+ghost use Rattle.common_lines.specs.Faults.{unless};
+ghost use Rattle.common_lines.specs.Lines.{parts_of};
 ghost use Rattle.row_text.specs.TableForms.{NumberLine, RowLine, EndLine};
 ghost use Rattle.table_script.specs.TableRules.{are_ports, port_words, is_colon, is_pair, are_pairs, row_of, entry_cause, is_numbered, IsKept};
 ghost use Rattle.table_script.specs.TableTexts.{AddsTableForm, IsFaultyTableForm};
 ghost use Rattle.table_script.specs.TableSteps.{IsNoRow, ReadsTable, IsWrongTable};
-ghost use Rattle.text_lines.specs.Faults.{IsField};
-ghost use Rattle.text_lines.specs.Stops.{IsStep};
+ghost use Rattle.common_lines.specs.Faults.{IsField};
+ghost use Rattle.common_lines.specs.Stops.{IsStep};
 
 use crate::component::Network;
 use crate::table_draft::{EntryAt, NumberAt, TableDraft};
@@ -22,13 +22,13 @@ use crate::table_words::next_word;
 use an_base::place::Place;
 use an_base::port::Port;
 use an_base::row::{Exits, Row};
+use common_lines::line::first_of;
+use common_lines::stop::Stop;
+use common_lines::word::{is, is_number, number_of};
 use net_script::cause::ScriptCause;
 use net_script::field::{known_switch, number_in};
 use net_script::form::ScriptStop;
 use net_script::script::Script;
-use text_lines::line::first_of;
-use text_lines::stop::Stop;
-use text_lines::word::{is, is_number, number_of};
 
 /// Adds what a line of tables of these words says, of which the first is not `row`.
 pub fn read_table_form(

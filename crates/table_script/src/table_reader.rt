@@ -5,12 +5,12 @@ ghost use Rattle.std.specs.List.{range_with_len};
 ghost use Rattle.net_script.specs.declared.draft.Part.TheVariants.{After};
 ghost use Rattle.table_script.specs.Tables.{AreTablesOf};
 ghost use Rattle.table_script.specs.TableRules.{IsKept, number_of, tables_of};
-ghost use Rattle.text_lines.specs.Chains.{LeadsBy};
-ghost use Rattle.text_lines.specs.Lines.{lines_of, parts_of, words_of};
+ghost use Rattle.common_lines.specs.Chains.{LeadsBy};
+ghost use Rattle.common_lines.specs.Lines.{lines_of, parts_of, words_of};
 ghost use Rattle.table_script.specs.TableTexts.{AddsTable, IsFaultyTable, AddsTableWords, IsFaultyTableWords};
 ghost use Rattle.table_script.specs.TableTexts.{AddsTold, IsFaultyTold, AreEnded, IsTextWith, none_told};
 ghost use Rattle.net_script.specs.Texts.{Adds, IsFaulty};
-ghost use Rattle.text_lines.specs.Stops.{IsStep};
+ghost use Rattle.common_lines.specs.Stops.{IsStep};
 ghost use Rattle.table_script.specs.TableSteps.{told_of, IsReady, IsRefusalWith};
 
 use crate::component::{Network, labels_of};
@@ -18,17 +18,17 @@ use crate::table_draft::TableDraft;
 use crate::table_form::{read_row_words, read_table_form};
 use crate::table_words::{before_comment, next_word};
 use crate::tables::Tables;
-use common_values::memory::OutOfMemory;
 use an_base::place::Place;
+use common_lines::line::{are_line_bytes, first_line, words};
+use common_lines::stop::{Refusal, Stop};
+use common_lines::word::is;
+use common_values::memory::OutOfMemory;
 use net_script::cause::ScriptCause;
 use net_script::draft::{Draft, Part};
 use net_script::form::ScriptStop;
 use net_script::reader::{ReadRefusal, read_line};
 use net_script::script::Script;
 use std::alloc::Global;
-use text_lines::line::{are_line_bytes, first_line, words};
-use text_lines::stop::{Refusal, Stop};
-use text_lines::word::is;
 
 /// The most bytes of a line of tables, without what ends it.
 pub const MOST_TABLE_LINE: usize = 4_000;

@@ -1,7 +1,7 @@
 //! The words of a line of tables, one after another.
 
 ghost use Rattle.std.specs.Prelude.{◌≡◌, ◌<◌, ◌==◌, [], ◌∷◌, length, position, None, IfSome, IfNone};
-ghost use Rattle.text_lines.specs.Lines.{is_blank, parts_of, without_comment};
+ghost use Rattle.common_lines.specs.Lines.{is_blank, parts_of, without_comment};
 
 use memchr::memchr;
 

@@ -13,8 +13,8 @@ ghost use Rattle.std.specs.List.{list_any};
 use an_base::entry::{Entries, Entry};
 use an_base::life::{End, Life};
 use an_base::links::PortLink;
-use common_values::memory::OutOfMemory;
 use an_base::position::Position;
+use common_values::memory::OutOfMemory;
 use std::alloc::Global;
 use std::marker::Model;
 

@@ -19,9 +19,9 @@ ghost use Rattle.wire_set.specs.WireState.{wire_at, wire_out};
 
 use crate::frames::Frames;
 use crate::side::{Loss, Put, Side, Taken, is_link};
-use common_values::memory::OutOfMemory;
 use an_base::place::Place;
 use an_base::port::Port;
+use common_values::memory::OutOfMemory;
 use frame_region::buffer::FrameBuf;
 use frame_region::region::NoRoom;
 use net_graph::wiring::{Far, Wiring};

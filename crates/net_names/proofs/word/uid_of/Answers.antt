@@ -1,5 +1,5 @@
 use Rattle.std.proofs.Common.{arith, ◌∙◌}
-use Rattle.text_lines.proofs.WordLemmas.{hex_digits_more, hex_value_fits, hex_value_next}
+use Rattle.common_lines.proofs.WordLemmas.{hex_digits_more, hex_value_fits, hex_value_next}
 use Rattle.net_names.proofs.WordLemmas.{uid_fits}
 use Rattle.net_names.proofs.word.uid_of.Goals as goal
 

@@ -1,0 +1,13 @@
+//! The commands that need a network file alone, or with its tables: `expect`, `check`, `flood` and `flow B`.
+//!
+//! It stands on `autonet_call`, and on the text of each command. Its contract is that of each call: what its status
+//! means, what the source then has left, and what each sink gained. No call waits.
+#![tactic(auto)]
+
+pub mod check;
+pub mod file;
+pub mod flood;
+pub mod flow;
+pub mod law;
+pub mod room;
+mod words;

@@ -1,0 +1,21 @@
+//! What a verdict means, and that a graph has one. No function here has code.
+
+ghost use Rattle.std.specs.Prelude.{◌≡◌, ℕ, List};
+ghost use Rattle.std.specs.Ordering.{nat_cmp};
+ghost use Rattle.common_graph.specs.Graph.{Fall, GraphOf, LeadsTo};
+ghost use Rattle.common_graph.specs.Cycles.{HasNoCycle, IsLeastCycle};
+ghost use Rattle.common_graph.specs.Verdict.{Passes};
+
+/// Ranks suffice: if any numbers fall along each step, no steps lead round.
+pub fn ranks_suffice()
+    ensures { (graph : GraphOf) (ranks : List ℕ) → Fall graph ranks → HasNoCycle (LeadsTo graph) }
+{}
+
+/// A graph has one verdict: its ranks are one list, its least cycle is one list, and it has not both.
+pub fn one_answer()
+    ensures ranks { (graph : GraphOf) (one other : List ℕ) → Passes graph one → Passes graph other → one ≡ other }
+    ensures cycle { (graph : GraphOf) (one other : List ℕ)
+        → IsLeastCycle nat_cmp (LeadsTo graph) one → IsLeastCycle nat_cmp (LeadsTo graph) other → one ≡ other }
+    ensures either { (graph : GraphOf) (ranks nodes : List ℕ)
+        → Passes graph ranks → IsLeastCycle nat_cmp (LeadsTo graph) nodes → ⊥ }
+{}

@@ -1,0 +1,82 @@
+//! The names of the nodes of an answer.
+
+ghost use Rattle.std.specs.Prelude.{◌≡◌, ◌++◌, OnOk, IfOk, nat_eq, option_copied};
+ghost use Rattle.indexmap.specs.IndexSet.{insert_key};
+ghost use Rattle.fabric_judge_commands.specs.Names.{mentioned, told_name, names_for};
+
+use common_values::memory::OutOfMemory;
+use common_values::text::Word;
+use fabric_names::names::names_of;
+use fabric_print::answer::{LoopStep, Lost, Name};
+use indexmap::IndexSet;
+use std::alloc::Global;
+
+/// The names that the text of a topology tells of the nodes of these steps and lost routes, each once, in the order in
+/// which they stand there.
+pub fn names_in(
+    alloc: Global,
+    text: &[u8],
+    steps: &[LoopStep],
+    lost: &[Lost],
+) -> Result<Vec<Name>, OutOfMemory>
+    ensures { IfOk result (λ names. names.items ≡ names_for text.now (mentioned steps.now lost.now)) }
+{
+    let guids = guids_in(alloc, steps, lost)?;
+    names_for(alloc, text, &guids)
+}
+
+/// The names that the text of a topology tells of the nodes of these GUIDs, in the order of the GUIDs.
+pub fn names_for(
+    alloc: Global,
+    text: &[u8],
+    guids: &IndexSet<u64>,
+) -> Result<Vec<Name>, OutOfMemory>
+    ensures { IfOk result (λ names. names.items ≡ names_for text.now guids.now.keys) }
+{
+    let told = names_of(alloc, text, guids)?;
+    let mut names = Vec::new(alloc);
+    'guids: for guid in guids.as_slice() {
+        push_name(alloc, &mut names, *guid, told.get(guid))?;
+    }
+    Ok(names)
+}
+
+// Appends the name of a node, if it has one.
+fn push_name(
+    alloc: Global,
+    names: &mut Vec<Name>,
+    guid: u64,
+    name: Option<&Word>,
+) -> Result<(), OutOfMemory>
+    ensures { OnOk result (names.new.items ≡ names.old.items ++ told_name guid (option_copied name.entry)) }
+{
+    let Some(name) = name else {
+        return Ok(());
+    };
+    let text = Word::of(alloc, name.as_bytes())?;
+    names.push(Name { guid, text })?;
+    Ok(())
+}
+
+// The nodes of steps and of lost routes.
+fn guids_in(alloc: Global, steps: &[LoopStep], lost: &[Lost]) -> Result<IndexSet<u64>, OutOfMemory>
+    ensures { IfOk result (λ guids. guids.keys ≡ mentioned steps.now lost.now) }
+{
+    let mut guids = IndexSet::new(alloc);
+    'steps: for step in steps {
+        insert_two(&mut guids, step.guid, step.source)?;
+    }
+    'lost: for route in lost {
+        insert_two(&mut guids, route.source, route.at)?;
+    }
+    Ok(guids)
+}
+
+/// Adds two nodes to some, each if it is not among them.
+pub fn insert_two(guids: &mut IndexSet<u64>, one: u64, other: u64) -> Result<(), OutOfMemory>
+    ensures { OnOk result (guids.new.keys ≡ insert_key nat_eq (insert_key nat_eq guids.old.keys one) other) }
+{
+    guids.insert(one)?;
+    guids.insert(other)?;
+    Ok(())
+}

@@ -1,0 +1,53 @@
+-- What private functions cite: a side in four bytes, and the parts of a fabric.
+use Rattle.std.specs.Prelude.{◌≡◌, ◌<◌, ◌-◌, ◌/◌, ◌%◌, ◌^◌, ℕ, List, length, if◌then◌else◌, nat_lt, map}
+use Rattle.fabric_model.specs.declared.node.Spot.{Spot}
+use Rattle.fabric_model.specs.declared.node.Side.{Side}
+use Rattle.fabric_model.specs.declared.node.Side.TheVariants.{Bare, To, End}
+use Rattle.fabric_model.specs.declared.node.LidRange.{LidRange}
+use Rattle.fabric_model.specs.declared.node.Switch.{Switch}
+use Rattle.fabric_model.specs.declared.fabric.Parts.{Parts}
+use Rattle.fabric_model.specs.Fabric.{FabricOf, IsOther, side_of}
+use Rattle.fabric_model.specs.Nodes.{NodesOf}
+
+-- to a port of a switch: the switch in the upper bytes, the port in the lowest; to an end port: from 2 ^ 30
+-- on; to nothing: from 2 ^ 31 on
+abbrev pub side_in : ℕ → Side
+side_in word = if nat_lt word (2 ^ 30)
+    then To (word / 256) (word % 256)
+    else (if nat_lt word (2 ^ 31) then End (word - 2 ^ 30) else Bare)
+
+abbrev pub sides_in : List ℕ → List Side
+sides_in words = map side_in words
+
+-- it fits
+abbrev pub IsSmall : Side → Type 0
+IsSmall (To next entry) = next < 2 ^ 22
+IsSmall (End end) = end < 2 ^ 30
+IsSmall Bare = Unit {0}
+
+-- an end port fits
+abbrev pub IsSmallEnd : Side → Type 0
+IsSmallEnd (To next entry) = Unit {0}
+IsSmallEnd (End end) = end < 2 ^ 16
+IsSmallEnd Bare = Unit {0}
+
+-- the side of a port is this one now, and all else is as before
+pub record IsSideSet (old new : FabricOf) (spot : Spot) (side : Side) : Type 0 where
+  pub count : length new.sides ≡ length old.sides
+  pub there : side_of new spot.switch spot.port ≡ side
+  pub others :
+      (switch port : ℕ) → IsOther spot switch port → side_of new switch port ≡ side_of old switch port
+  pub rest : new ≡ record old { sides = new.sides }
+
+-- these switches and end ports, and the fabric of nodes and parts
+abbrev pub nodes_in : List (ℕ × Switch) → List (ℕ × LidRange) → NodesOf
+nodes_in switches ends = record { switches = switches; ends = ends }
+
+abbrev pub fabric_in : NodesOf → Parts → FabricOf
+fabric_in nodes parts = record {
+  nodes = nodes;
+  most = parts.most;
+  sides = sides_in parts.sides.items;
+  cables = parts.cables.items;
+  owners = parts.owners.items;
+}

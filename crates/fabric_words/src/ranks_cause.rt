@@ -1,0 +1,49 @@
+//! Why a text tells no ranks.
+
+ghost use Rattle.std.specs.Prelude.{◌≡◌};
+ghost use Rattle.fabric_words.specs.RanksCauses.{cause_text};
+
+/// What is wrong with a line of ranks.
+#[derive(Clone, Copy)]
+pub enum RanksCause {
+    /// It has more than 200 bytes.
+    LineTooLong,
+    /// It is no line of ranks.
+    UnknownLine,
+    /// The GUID is not `0x` and 1 to 16 hexadecimal digits.
+    BadGuid,
+    /// The port is no number up to 255.
+    BadPort,
+    /// The rank is no number below 2^32.
+    BadRank,
+    /// The head stands there again, or a rank before it.
+    OutOfPlace,
+    /// No switch of the fabric has this GUID.
+    UnknownSwitch,
+    /// The port does not lead to a switch.
+    NoChannel,
+    /// A rank of this channel was told before.
+    RankTold,
+    /// There is no head.
+    NoHead,
+}
+
+impl RanksCause {
+    /// The words for it in messages.
+    pub fn text(self) -> &'static str
+        ensures { result.now ≡ cause_text self }
+    {
+        match self {
+            RanksCause::LineTooLong => "line too long",
+            RanksCause::UnknownLine => "unknown line",
+            RanksCause::BadGuid => "bad guid",
+            RanksCause::BadPort => "bad port",
+            RanksCause::BadRank => "bad rank",
+            RanksCause::OutOfPlace => "out of place",
+            RanksCause::UnknownSwitch => "unknown switch",
+            RanksCause::NoChannel => "no channel",
+            RanksCause::RankTold => "rank told",
+            RanksCause::NoHead => "no head",
+        }
+    }
+}
