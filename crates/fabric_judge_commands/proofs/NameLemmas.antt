@@ -1,7 +1,7 @@
 -- The names of the nodes that an answer mentions.
 use Rattle.std.proofs.Common.{◌≡◌, ◌∙◌, sym, ap, ℕ, ◌+◌, ◌<◌, List, [], ◌++◌, Option, length, get_or, take}
 use Rattle.std.proofs.lemmas.List.{flat_map_more, take_more}
-use Rattle.fabric_names.specs.Names.{name_of}
+use Rattle.fabric_topology.specs.Names.{name_of}
 use Rattle.fabric_print.specs.declared.answer.Name.{Name}
 use Rattle.fabric_judge_commands.specs.Names.{told_name, names_for}
 

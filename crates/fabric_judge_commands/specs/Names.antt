@@ -6,7 +6,7 @@ use Rattle.indexmap.specs.IndexSet.{insert_all}
 use Rattle.fabric_print.specs.declared.answer.Lost.{Lost}
 use Rattle.fabric_print.specs.declared.answer.Name.{Name}
 use Rattle.fabric_print.specs.declared.answer.LoopStep.{LoopStep}
-use Rattle.fabric_names.specs.Names.{name_of}
+use Rattle.fabric_topology.specs.Names.{name_of}
 
 -- the GUIDs in steps of a cycle and in lost routes, as they stand there
 abbrev pub guids_of : List LoopStep → List Lost → List ℕ

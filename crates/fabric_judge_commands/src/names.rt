@@ -6,8 +6,8 @@ ghost use Rattle.fabric_judge_commands.specs.Names.{mentioned, told_name, names_
 
 use common_values::memory::OutOfMemory;
 use common_values::text::Word;
-use fabric_names::names::names_of;
 use fabric_print::answer::{LoopStep, Lost, Name};
+use fabric_topology::names::names_of;
 use indexmap::IndexSet;
 use std::alloc::Global;
 

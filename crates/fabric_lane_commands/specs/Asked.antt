@@ -10,7 +10,7 @@ use Rattle.fabric_lane_tables.specs.PathLevels.{LevelsOf, told_levels}
 use Rattle.fabric_words.specs.declared.lane_cause.LaneCause.{LaneCause}
 use Rattle.fabric_read_lines.specs.declared.reader.TextRefusal.{TextRefusal}
 use Rattle.fabric_read_lines.specs.declared.reader.TextRefusal.TheVariants as refusal
-use Rattle.fabric_read_levels.specs.Reads.{GaveLevels, IsRefusedBy}
+use Rattle.fabric_read_lanes.specs.LevelReads.{GaveLevels, IsRefusedBy}
 use Rattle.fabric_print_lanes.specs.declared.answer.Asked.{Asked}
 use Rattle.fabric_print_lanes.specs.declared.answer.LevelsAsked.{LevelsAsked}
 use Rattle.fabric_print_lanes.specs.declared.answer.LevelsAsked.TheVariants.{File, Same, Any}

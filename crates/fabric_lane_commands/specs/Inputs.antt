@@ -11,7 +11,7 @@ use Rattle.fabric_lane_tables.specs.PathLevels.{LevelsOf}
 use Rattle.fabric_words.specs.declared.lane_cause.LaneCause.{LaneCause}
 use Rattle.fabric_read_lines.specs.declared.reader.TextRefusal.{TextRefusal}
 use Rattle.fabric_read_lines.specs.declared.reader.TextRefusal.TheVariants as refusal
-use Rattle.fabric_read_sl2vl.specs.Reads.{GaveLanes, HasRows, IsRefusedBy}
+use Rattle.fabric_read_lanes.specs.LaneReads.{GaveLanes, HasRows, IsRefusedBy}
 use Rattle.fabric_print_lanes.specs.declared.answer.Asked.{Asked}
 use Rattle.fabric_call.specs.declared.status.Status.{Status}
 use Rattle.fabric_call.specs.declared.status.Status.TheVariants.{LanesRefused, ReadFault, OutOfMemory}

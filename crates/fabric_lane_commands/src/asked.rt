@@ -15,7 +15,7 @@ use fabric_lane_tables::in_use::in_use;
 use fabric_lane_tables::levels::Levels;
 use fabric_model::fabric::Fabric;
 use fabric_print_lanes::answer::{Asked, LevelsAsked};
-use fabric_read_levels::reader::read_levels;
+use fabric_read_lanes::level_reader::read_levels;
 use fabric_read_lines::reader::TextRefusal;
 use fabric_words::lane_cause::LaneCause;
 use outside::source::Source;

@@ -6,7 +6,7 @@ ghost use Rattle.fabric_call.specs.Answer.{GaveFabric};
 ghost use Rattle.fabric_lane_commands.specs.Asked.{HasLowLevels};
 ghost use Rattle.fabric_lane_commands.specs.Inputs.{AreLanesRefused, AreRead, HasPlaces, IsStop, lanes_refused, lane_sources, told_in};
 ghost use Rattle.fabric_model.specs.Fabric.{FabricOf};
-ghost use Rattle.fabric_read_sl2vl.specs.Reads.{GaveLanes, HasRows};
+ghost use Rattle.fabric_read_lanes.specs.LaneReads.{GaveLanes, HasRows};
 
 use crate::asked::read_asked;
 use fabric_call::input::{Topology, read_topology};
@@ -15,8 +15,8 @@ use fabric_lane_tables::lanes::LaneRows;
 use fabric_lane_tables::levels::Levels;
 use fabric_model::fabric::Fabric;
 use fabric_print_lanes::answer::Asked;
+use fabric_read_lanes::lane_reader::read_lanes;
 use fabric_read_lines::reader::TextRefusal;
-use fabric_read_sl2vl::reader::read_lanes;
 use fabric_read_tables::reader::{Tables, read_tables};
 use fabric_words::lane_cause::LaneCause;
 use outside::source::Source;

@@ -1,1 +1,2 @@
 pub mod DumpedLemmas
+mod NameLemmas

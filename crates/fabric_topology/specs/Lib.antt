@@ -5,3 +5,4 @@ pub mod Dumped
 pub mod Plain
 pub mod Texts
 pub mod Unset
+pub mod Names

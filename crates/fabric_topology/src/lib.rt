@@ -11,5 +11,6 @@ pub mod discovered;
 pub mod dumped;
 pub mod fact;
 mod front;
+pub mod names;
 mod plain;
 pub mod reader;
