@@ -45,7 +45,7 @@ IsByLink fabric switch (On port next) = IsLink fabric switch port next
 IsByLink fabric switch Arrive = Unit {0}
 IsByLink fabric switch (Stop cause) = Unit {0}
 
--- the hop at `at`, for packets to `lid`, makes the dependency of channel `other` after channel `one`
+-- the hop at `at`, for packets to `lid`, makes channel `one` depend on channel `other`
 pub record Makes (fabric : FabricOf) (tables : TablesOf) (lid at one other : ℕ) : Type 0 where
   pub port : ℕ
   pub next : ℕ

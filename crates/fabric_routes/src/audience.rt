@@ -168,7 +168,7 @@ impl Targets {
         }
     }
 
-    /// Returns the LIDs to which `source` sends, if it sends at all. The bits of its own LIDs mean nothing.
+    /// Returns the LIDs to which `source` sends, if it sends at all. Its own LIDs can be among them or not.
     #[inline]
     pub fn sent_by(self, source: EndPort) -> u64
         ensures { (fabric : FabricOf) (tables : TablesOf) (traffic : Traffic) (block : ℕ)

@@ -20,8 +20,8 @@ pub struct Target {
     pub block: usize,
     /// The bit of the LID in the block, from 0 to 63.
     pub bit: usize,
-    /// If set: routes count as arrived at this switch only. A route that would arrive at another switch stops there, as
-    /// `Wrong`.
+    /// If set, each route that comes to this switch counts as arrived there, and a route that would arrive at another
+    /// switch stops there, as `Wrong`.
     pub until: Option<u32>,
 }
 

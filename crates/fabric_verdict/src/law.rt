@@ -29,10 +29,10 @@ pub fn routes_arrive_soon()
 {}
 
 /// Proves that some packet can move, and that waiting packets lead to it. Suppose that there is no credit loop, that
-/// every channel holds at least one packet, and that every packet is on a route of the traffic. Start at any channel
-/// that is not empty, and go each time to the channel for which its first packet waits: you come to a channel whose
-/// first packet leaves or has free space ahead. Routes can be lost: a packet whose route stops at a switch is dropped
-/// there, so it leaves.
+/// every channel has space for at least one packet, and that every packet is on a route of the traffic. Start at any
+/// channel that is not empty, and go each time to the channel for which its first packet waits: you come to a channel
+/// whose first packet leaves or has free space ahead. Routes can be lost: a packet whose route stops at a switch is
+/// dropped there, so it leaves.
 pub fn some_packet_can_move()
     ensures { (fabric : FabricOf) (tables : TablesOf) (traffic : Traffic) (ranks : List ℕ) (room : Channel → ℕ)
         (queue : QueuesOf) (channel : Channel)
