@@ -7,13 +7,13 @@ ghost use Rattle.fabric_topology.specs.Names.{AreNamesBy, AreNamesOf, braced, fa
 ghost use Rattle.fabric_topology.specs.Names.{near_braced, near_name, node_told, past, past_four, plain_name};
 ghost use Rattle.fabric_topology.specs.Names.{section_name};
 
+use crate::discovered::quoted;
+use crate::dumped::{far_parts, near_parts};
+use crate::fact::{Fact, Part};
+use crate::reader::says;
 use common_lines::line::first_line;
 use common_values::memory::OutOfMemory;
 use common_values::text::Word;
-use fabric_topology::discovered::quoted;
-use fabric_topology::dumped::{far_parts, near_parts};
-use fabric_topology::fact::{Fact, Part};
-use fabric_topology::reader::says;
 use fabric_words::cut::{after, cut, cut_first, cut_last};
 use indexmap::{IndexMap, IndexSet};
 use std::alloc::Global;
