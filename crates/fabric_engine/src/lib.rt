@@ -3,8 +3,8 @@
 //!
 //! The crate depends on `fabric_model`, `fabric_tables`, `fabric_engine_channels`, `fabric_engine_orders` and
 //! `fabric_engine_rising`. Its contract: `choice` returns tables that have all switches and all owned LIDs of the
-//! fabric, and the same tables each time. We do not prove that these tables are good: whoever uses them must judge
-//! them.
+//! fabric. The same fabric gets the same tables each time. We do not prove that these tables are good: whoever uses
+//! them must judge them.
 #![tactic(auto)]
 
 pub mod choice;
