@@ -2,8 +2,8 @@
 //!
 //! The crate depends on `common_graph`, `fabric_routes`, `fabric_lane_tables` and `fabric_lane_routes`. Its contract:
 //! `find` puts into a graph of the channels, each a link on a lane, the dependencies that the routes of a traffic make
-//! with their service levels, all of them and no other, and reports whether a route stops or its packets are dropped
-//! because they are mapped to VL 15.
+//! with their service levels, all of them and no other, and reports whether a route stops, or its packets are mapped to
+//! VL 15 and dropped.
 //!
 //! A packet that leaves a switch on a lane with a level departs there (`departure`), and the tables lead it from
 //! departure to departure (`wave`). End ports of a switch whose packets all leave on the same lanes share a gate
