@@ -64,14 +64,14 @@ pub enum Frame {
         /// The number of the last body accepted; 0 if there is none.
         n: u32,
     },
-    /// A question about who is at the other end.
+    /// A question: which end is at the other side of the link?
     Probe {
         /// The end that asks.
         from: End,
         /// A number that identifies the reply.
         nonce: u64,
     },
-    /// The reply to a probe, which says who is at this end.
+    /// The reply to a probe: this end is at the other side.
     Reply {
         /// The end that replies.
         from: End,
