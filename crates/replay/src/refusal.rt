@@ -11,15 +11,15 @@ use journal_cause::cause::JournalCause;
 /// Why a journal was not replayed.
 #[derive(Clone, Copy, Debug, PartialEq, Eq)]
 pub enum ReplayRefusal {
-    /// It is no lawful journal with an end.
+    /// It is not a lawful journal with an end.
     Illegal {
-        /// The line of its text: that of the first event that is not lawful, or the last. If the text is no
+        /// The line of its text: of the first event that is not lawful, or the last line. If the text is not a
         /// journal, its first faulty line.
         line: u32,
-        /// What is wrong: `NotLawful` or `Unfinished`. If the text is no journal, its fault.
+        /// What is wrong: `NotLawful` or `Unfinished`. If the text is not a journal, its error.
         cause: JournalCause,
     },
-    /// No memory was found.
+    /// An allocation failed.
     OutOfMemory,
 }
 
