@@ -1,4 +1,4 @@
-//! What routes are laid for.
+//! The plan by which routes are laid.
 
 use fabric_engine_channels::channels::{Channel, Channels};
 use fabric_engine_channels::demand::{Demand, Target};
@@ -6,8 +6,8 @@ use fabric_engine_channels::order::Order;
 use fabric_engine_channels::ways::{FAR, Ways};
 use fabric_model::traffic::Traffic;
 
-/// What routes are laid for: the channels of a fabric and its end ports, the order along which routes rise, and the
-/// traffic that must arrive.
+/// The plan by which routes are laid: the channels of a fabric and its end ports, the order along which routes rise,
+/// and the traffic that must arrive.
 #[derive(Clone, Copy)]
 pub struct Plan<'a> {
     /// The channels of the fabric.

@@ -14,7 +14,7 @@ guids_of cycle lost =
     flat_map (λ step. step.guid ∷ step.source ∷ []) cycle
     ++ flat_map (λ route. route.source ∷ route.at ∷ []) lost
 
--- these GUIDs, each once, at its first index
+-- the GUIDs in steps of a cycle and in lost routes, each once, in the order of first occurrence
 abbrev pub mentioned : List LoopStep → List Lost → List ℕ
 mentioned cycle lost = insert_all nat_eq [] (guids_of cycle lost)
 

@@ -90,7 +90,7 @@ pub fn cycle_of(judged: &Judgement) -> &[LoopChannel]
     }
 }
 
-/// Returns what was read. The caller counts the links between switches.
+/// Returns what was read, if `links` is the number of links between switches.
 pub fn read_of(fabric: &Fabric, tables: &Tables, links: u64) -> Read
     ensures { IsLinkCount fabric.now links → IsRead fabric.now tables.now result }
 {

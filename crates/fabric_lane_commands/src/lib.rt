@@ -7,8 +7,8 @@
 //! call:
 //!
 //! - 0, 6, 7 and 8: the bytes that the sources gave are the text of a fabric, of its tables, its lanes and, if the call
-//!   names a file of them, its levels. The command wrote exactly what it gives for them: `specs/LaneJudged` defines each
-//!   part of it for `lanes::lanes`, `specs/LaneDrawn` for `picture::draw_lanes`.
+//!   names a file of them, its levels. The command wrote exactly what it gives for them: `specs/LaneJudged` defines
+//!   each part of it for `lanes::lanes`, `specs/LaneDrawn` for `picture::draw_lanes`.
 //! - 3: the command wrote nothing to standard output. Standard error has the first line with an error of the first
 //!   invalid file, and its first reason.
 #![tactic(auto)]

@@ -9,7 +9,7 @@ use std::alloc::{AllocError, Global};
 /// Appends the label of a switch with this name.
 ///
 /// # Errors
-/// The allocation fails.
+/// `AllocError` if the allocation fails.
 pub(crate) fn push_label(text: &mut Vec<u8>, name: &[u8]) -> Result<(), AllocError>
     ensures { OnOk result (text.new.items ≡ text.old.items ++ label_word name.now) }
 {
@@ -53,7 +53,7 @@ fn escape(byte: u8) -> Option<&'static [u8]>
 /// Appends how many channels a loop has, or that there is no loop, at the end of a text in quotes.
 ///
 /// # Errors
-/// The allocation fails.
+/// `AllocError` if the allocation fails.
 pub(crate) fn push_loop(alloc: Global, text: &mut Vec<u8>, many: usize) -> Result<(), AllocError>
     ensures { OnOk result (text.new.items ≡ text.old.items ++ loop_word many) }
 {
@@ -69,7 +69,7 @@ pub(crate) fn push_loop(alloc: Global, text: &mut Vec<u8>, many: usize) -> Resul
 /// Appends the start of the label of a channel on a lane, for a route with a service level.
 ///
 /// # Errors
-/// The allocation fails.
+/// `AllocError` if the allocation fails.
 pub(crate) fn push_on_lane(
     alloc: Global,
     text: &mut Vec<u8>,

@@ -66,8 +66,8 @@ fn refused<Cause>(line: u64, stop: Stop<Cause>) -> TextRefusal<Cause>
 /// must pass a `told` that is fit for `fabric` and has counted no line.
 ///
 /// # Errors
-/// `Fault` with the first line that is invalid, or too many bytes; `ReadFault` if a read failed; `OutOfMemory`, which
-/// says nothing about the bytes.
+/// `Fault` with the line of the first error and its reason, which can be that the text has too many bytes; `ReadFault`
+/// if a read failed; `OutOfMemory`, which says nothing about the bytes.
 pub fn read_text<S: Source, Cause: TextCause, T: TakesLines<Cause>>(
     told: &mut T,
     alloc: Global,

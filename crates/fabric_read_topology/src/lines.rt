@@ -33,7 +33,7 @@ pub(crate) trait Takes {
         ensures { IsStep result (adds self.old fact self.new) (is_faulty self.old fact) };
 }
 
-/// Takes the facts of all lines of a text.
+/// Takes the facts of all lines of a text. The caller must pass fewer than 2^32 - 1 bytes.
 ///
 /// # Errors
 /// The first line with an error and its first reason, or out of memory.

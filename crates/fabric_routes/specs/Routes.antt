@@ -52,7 +52,7 @@ hop fabric tables switch lid = hop_by fabric switch lid (tables switch lid)
 abbrev pub IsCabled : FabricOf → ℕ → Type 0
 IsCabled fabric end = (switch : ℕ) × (start_of fabric (Host end) ≡ Some switch)
 
--- the end port sends
+-- the end port sends, in this traffic
 abbrev pub IsSource : FabricOf → Traffic → EndPort → Type 0
 IsSource fabric traffic (Host end) = IsCabled fabric end
 IsSource fabric Hosts (Switch switch) = ⊥
@@ -61,7 +61,7 @@ IsSource fabric Managed (Switch switch) = switch < switch_count fabric
 IsSource fabric All (Switch switch) = switch < switch_count fabric
 IsSource fabric Rows (Switch switch) = switch < switch_count fabric
 
--- others send to the LIDs of the end port
+-- others send to the LIDs of the end port, in this traffic
 abbrev pub IsTarget : FabricOf → Traffic → EndPort → Type 0
 IsTarget fabric traffic (Host end) = IsCabled fabric end
 IsTarget fabric Hosts (Switch switch) = ⊥

@@ -22,7 +22,7 @@ abbrev pub channel_cmp : Channel → Channel → Ordering
 channel_cmp one other = ordering_then (nat_cmp one.switch other.switch) (nat_cmp one.port other.port)
 
 -- `rank_over` and `rank_in`: the rank that a list has for a channel, by its number; a port that does not lead
--- to a switch is no channel
+-- to a switch has none
 abbrev pub rank_over : Side → Option ℕ → Option ℕ
 rank_over (To next entry) rank = rank
 rank_over Bare rank = None

@@ -84,8 +84,8 @@ const DIGITS: [u32; 256] = [
     NONE, NONE, NONE, NONE, NONE, NONE, NONE,
 ];
 
-/// Returns the value of a hexadecimal digit, in either case, or 2^16 if `c` is none. So one test finds out whether four
-/// bytes are all digits.
+/// Returns the value of a hexadecimal digit, in either case, or 2^16 if `c` is not one. So one test finds out whether
+/// four bytes are all digits.
 #[inline]
 pub fn digit_or_more(c: u8) -> u32
     ensures digit { result ≡ digit_or_more c }

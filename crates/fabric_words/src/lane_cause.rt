@@ -6,7 +6,7 @@ ghost use Rattle.fabric_words.specs.LaneCauses.{cause_text};
 use crate::text_cause::TextCause;
 use common_lines::stop::Stop;
 
-/// What is wrong with a line of lanes or of service levels.
+/// The error in a line of lanes or service levels.
 #[derive(Clone, Copy)]
 pub enum LaneCause {
     /// The line has more than 4,096 bytes.

@@ -3,12 +3,12 @@
 ghost use Rattle.std.specs.Prelude.{◌≡◌};
 ghost use Rattle.fabric_words.specs.RanksCauses.{cause_text};
 
-/// What is wrong with a line of ranks.
+/// The error in a line of ranks.
 #[derive(Clone, Copy)]
 pub enum RanksCause {
     /// It has more than 200 bytes.
     LineTooLong,
-    /// It is no line of ranks.
+    /// It is not a line of ranks.
     UnknownLine,
     /// The GUID is not `0x` with 1 to 16 hexadecimal digits.
     BadGuid,
