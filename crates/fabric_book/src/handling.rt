@@ -28,7 +28,7 @@ use net_state::station::write_note;
 use switch_core::out::Out;
 use switch_core::switch::{ClockRefusal, Switch};
 
-// A switch does with what it has in hand what it does. After want of memory it is as it was started, and no frame
+// Makes a switch do what it does with what it has in hand. If memory runs out it is as it was started, and no frame
 // goes out.
 fn work(switch: &mut Switch, hand: Hand, bytes: &[u8], out: &mut Out) -> Result<(), OutOfMemory>
     requires full { is_empty hand ≡ false }
@@ -53,8 +53,8 @@ fn work(switch: &mut Switch, hand: Hand, bytes: &[u8], out: &mut Out) -> Result<
     }
 }
 
-// The lines of an epoch that a switch joined, of one that it finished, and that no epoch is left for it, each
-// if it is so.
+// Adds a line for an epoch that the switch joined, one for an epoch that it finished, and one if no epoch is left
+// for it.
 fn tell_epochs(
     s: Place,
     before: u64,
@@ -76,8 +76,8 @@ fn tell_epochs(
     Ok(())
 }
 
-// A switch has handled what it had in hand, before which it showed what is noted. Notes what it shows now; a line of
-// each port whose state changed is added. After a frame this can only be the port by which it came.
+// Updates `note`, which is what the switch showed before it handled what it had in hand, and adds a line for each
+// port whose state changed. After a frame this can only be the port by which it came.
 fn show(
     switch: &Switch,
     s: Place,
@@ -108,8 +108,14 @@ fn show(
     }
 }
 
-/// A switch handles what it has in hand, before which it showed what is noted; all lines of it are added but those
-/// of frames. Notes what it shows now; `room` is room for a note.
+/// Makes the switch at `s` handle `hand`, and adds all lines of it except those about frames. `note` is updated to
+/// what the switch now shows; `room` is scratch space for a note.
+///
+/// The caller must pass a working switch with fewer than 2^28 works, a hand that is not empty, and in `note` what
+/// the switch showed before.
+///
+/// # Errors
+/// `OutOfMemory` if an allocation fails. The contents of `out`, `note` and `lines` are then unspecified.
 pub fn handle(
     switch: &mut Switch,
     s: Place,
@@ -142,7 +148,7 @@ pub fn handle(
     Ok(())
 }
 
-/// The switch at a place handles what it has in hand, and the book takes what came of it; the lines are added.
+/// Makes the switch at `s` handle what it has in hand, records the result in the book, and adds the lines.
 pub(crate) fn handle_at(
     book: &mut Book,
     switch: &mut Switch,
@@ -172,7 +178,7 @@ pub(crate) fn handle_at(
     lines.push_all(puts)
 }
 
-/// The switch at a place loads the table that is due, and the book takes it; the line is added.
+/// Makes the switch at `s` load the table that is due, records it in the book, and adds the line.
 pub(crate) fn load_at(
     book: &mut Book,
     switch: &mut Switch,

@@ -1,4 +1,4 @@
-//! What is told of what a switch does.
+//! The lines that report what a switch does.
 
 ghost use Rattle.std.specs.Prelude.{◌≡◌, ◌==◌, ◌++◌, not, OnOk};
 ghost use Rattle.std.specs.List.{flat_map};
@@ -19,14 +19,14 @@ use net_state::hand::Hand;
 use net_state::line::Line;
 use switch_core::switch::Switch;
 
-// Whether two states are one.
+// Reports whether two states are equal.
 fn is_same_state(one: PortState, other: PortState) -> bool
     ensures { result ≡ (state_code one == state_code other) }
 {
     one == other
 }
 
-/// A line if the state of a port changed.
+/// Adds a line if the state of a port changed.
 pub(crate) fn tell_port(
     s: Place,
     port: Port,
@@ -48,7 +48,7 @@ pub(crate) fn tell_port(
     })
 }
 
-/// A line for each port whose state changed, by rising port.
+/// Adds a line for each port whose state changed, in ascending order of port.
 pub(crate) fn tell_ports(
     s: Place,
     before: &Note,
@@ -65,7 +65,7 @@ pub(crate) fn tell_ports(
     Ok(())
 }
 
-/// A line if what came in is no frame.
+/// Adds a line if what came in is no frame.
 pub(crate) fn tell_noise(
     s: Place,
     hand: Hand,
@@ -86,7 +86,7 @@ pub(crate) fn tell_noise(
     }
 }
 
-/// A line if a switch has finished its epoch.
+/// Adds a line if a switch has finished its epoch.
 pub(crate) fn tell_finish(
     s: Place,
     epoch: u64,

@@ -12,9 +12,9 @@ use Rattle.net_world.specs.Heard.{WasSent}
 use Rattle.net_game.specs.Lives.{powered}
 use Rattle.net_game.specs.Moves.{first_game, game_after}
 
--- A network of all lives, which plays the game of a history, has the switches of its world: each present
--- life is the switch at its place, each life to come is as it will be started; and whatever frame was sent
--- in the network was sent in the world.
+-- A network of all lives, which plays the game of a history, has the switches of its world: each present life is
+-- the switch at its index, each future life is as it will be started; and every frame that was sent in the network
+-- was sent in the world.
 pub record IsIn (script : ScriptOf) (lives : List LifeId) (history : List Event)
     (network : Network) : Type 0 where
   pub happens : Happens lives (dark (powered script)) (first_game script) network (game_after script history)
@@ -28,14 +28,14 @@ pub record IsIn (script : ScriptOf) (lives : List LifeId) (history : List Event)
       → network.switches (life_of script place boot) ≡ started_at script place boot
   pub was_sent : (frame : Frame) → Contains network.sent frame → WasSent script history frame
 
--- what the network was at an earlier moment, and that the rest happened since
+-- what the network was at an earlier point in time; the rest has happened since
 pub record IsMoment (script : ScriptOf) (lives : List LifeId) (before history : List Event)
     (network : Network) : Type 0 where
   pub earlier : Network
   pub is_in : IsIn script lives before earlier
   pub since : Happens lives earlier (game_after script before) network (game_after script history)
 
--- a history of the world is a run of the network, moment by moment
+-- a history of the world is a run of the network, at each point in time
 pub record IsEmbedded (script : ScriptOf) (lives : List LifeId) (history : List Event) : Type 0 where
   pub network : Network
   pub is_in : IsIn script lives history network

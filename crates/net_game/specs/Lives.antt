@@ -8,12 +8,12 @@ use Rattle.switch_game.specs.Network.{PowerOn}
 use Rattle.net_world.specs.Sound.{restarts_at}
 use Rattle.net_state.specs.Fabric.{life_of}
 
--- the lives of the switch at a place, up to a boot
+-- the lives of the switch at an index, up to a boot
 abbrev pub lives_at : ScriptOf → ℕ → ℕ → List LifeId
 lives_at script place zero = []
 lives_at script place (suc boot) = lives_at script place boot ++ life_of script place (suc boot) ∷ []
 
--- the lives of the switches at the first places: one each, and one for each of its restarts
+-- the lives of the switches at the first indices: one each, and one for each of its restarts
 abbrev pub lives_below : ScriptOf → ℕ → List LifeId
 lives_below script zero = []
 lives_below script (suc place) =
@@ -22,7 +22,7 @@ lives_below script (suc place) =
 abbrev pub all_lives : ScriptOf → List LifeId
 all_lives script = lives_below script (length script.wires.switches)
 
--- the number that the switch with an identifier had last, 1 if there is none
+-- the short address that the switch with an identifier had last, 1 if there is none
 abbrev pub had_by : List SwitchAt → ℕ → ℕ
 had_by [] uid = 1
 had_by (switch ∷ switches) uid = if switch.uid == uid then switch.had else had_by switches uid

@@ -8,8 +8,8 @@ use Rattle.net_graph.specs.Wires.{far_at}
 use Rattle.net_script.specs.Scripts.{ScriptOf}
 use Rattle.net_world.specs.Histories.{switch_after}
 
--- An end is at the far side of a port of a place by the wiring, and its life was there at a moment at which
--- the other life was at the place.
+-- The end `far` is at the far side of `port` of the switch at index `place` by the wiring, and its life was there
+-- at a point in time at which `life` was at `place`.
 pub record Met (script : ScriptOf) (history : List Event) (place : ℕ) (life : LifeId) (port : ℕ)
     (far : EndId) : Type 0 where
   pub other : ℕ

@@ -14,8 +14,8 @@ use Rattle.net_state.specs.Lawful.{is_lawful}
 use Rattle.net_world.specs.World.{WorldOf, begun, step}
 use Rattle.net_game.specs.Lives.{powered}
 
--- The moves of a switch by an act. To begin a next life is none, and the life that is gone makes no further
--- one, since whatever a switch does later it does as its present life.
+-- The moves of a switch by an act. Starting a next life is no move, and the life that is gone makes no further one,
+-- because whatever a switch does later it does as its present life.
 abbrev pub act_moves : Act → SwitchOf → Game → Game
 act_moves (Starts next) switch game = game
 act_moves (Clocks now samples) switch game =
@@ -29,7 +29,7 @@ all_moves [] switches game = game
 all_moves (act ∷ acts) switches game =
     all_moves acts switches (act_moves act.act (switches act.place) game)
 
--- the moves of an event; one that is not lawful has none, nor has one that lets no switch act
+-- the moves of an event; an event that is not lawful, or lets no switch act, has none
 abbrev pub event_moves : WorldOf → Event → Game → Game
 event_moves world event game =
     if is_lawful world.fabric event then all_moves (acts_of world event) world.switches game else game
@@ -43,11 +43,11 @@ moves_of world (event ∷ events) game = moves_of (step world event) events (eve
 abbrev pub first_game : ScriptOf → Game
 first_game script = begins (powered script).epoch
 
--- and after a history
+-- the game after a history
 unfoldable pub game_after : ScriptOf → List Event → Game
 game_after script history = moves_of (begun script) history (first_game script)
 
--- a life made no move between two states of the game
+-- `life` made no move between two states of the game
 pub record HasRested (life : LifeId) (game later : Game) : Type 0 where
   pub present : later.present life ≡ game.present life
   pub nodes : (epoch : ℕ) → later.nodes life epoch ≡ game.nodes life epoch

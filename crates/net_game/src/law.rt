@@ -1,5 +1,5 @@
-//! Laws of the world as a run of the game of all epochs: what is claimed at each moment of a history, and of
-//! one that ends settled.
+//! Theorems about the world as a run of the game of all epochs: what holds at each point in time of a history, and
+//! of a history that ends settled.
 
 ghost use Rattle.std.specs.Prelude.{◌≡◌, ◌<◌, ◌≤◌, ◌++◌, ℕ, Contains, List, Some, length};
 ghost use Rattle.an_base.specs.Values.{EndId};
@@ -27,8 +27,8 @@ pub fn a_script_has_few_lives()
         → Contains (all_lives script) ((world_after script history).switches place).life }
 {}
 
-/// The moves of a history are a run of the game of all epochs, which goes on as the history does. The game
-/// has of each present life what its switch has, and a life that is gone makes no further move.
+/// The moves of a history are a run of the game of all epochs, which continues as the history does. The game has of
+/// each present life what its switch has, and a life that is gone makes no further move.
 pub fn a_history_plays_the_game()
     ensures run { (script : ScriptOf) → IsScript script → (history : List Event)
         → Play (all_lives script) (first_game script) (game_after script history) }
@@ -46,9 +46,9 @@ pub fn a_history_plays_the_game()
         (game_after script (before ++ more)) }
 {}
 
-/// Each history is one of a network of all its lives, of which nothing is known but which frames were sent,
-/// and which plays the game of the history: moment by moment the present lives are the switches at their
-/// places.
+/// Each history is a history of a network of all its lives, of which nothing is known but which frames were sent,
+/// and which plays the game of the history. At each point in time the present lives are the switches at their
+/// indices.
 pub fn a_history_happens_in_a_network()
     ensures { (script : ScriptOf) → IsScript script → (history : List Event)
         → IsEmbedded script (all_lives script) history }
@@ -59,11 +59,11 @@ pub fn what_is_heard_was_sent()
     ensures { OfEachHistory IsHeard }
 {}
 
-/// Lives that finished one epoch under one root hold one topology, now or at any moment. It is a tree of
-/// exactly the lives that its links join, has the life, and the numbers of its numbering; the rows that the
-/// definition gives it join all of them by the script's legal routes, and no channel leads back to itself. A
+/// Lives that finished one epoch under one root hold one topology, now or at any point in time. It is a tree of
+/// exactly the lives that its links join, includes the life, and has the numbers of its numbering. The rows that
+/// the definition gives it join all of them by the script's legal routes, and no channel leads back to itself. A
 /// table in use is the routing table of what its life finished with in the table's epoch. After a load of a
-/// topology in an epoch none of its members uses a table of a lower epoch, in whatever history.
+/// topology in an epoch, none of its members uses a table of a lower epoch, in every history.
 pub fn what_is_finished_is_one_picture()
     ensures picture { OfEachHistory AreOnePicture }
     ensures topologies { OfEachHistory AreTopologies }
@@ -73,19 +73,19 @@ pub fn what_is_finished_is_one_picture()
     ensures moments { OfEachHistory HoldsAtEachMoment }
 {}
 
-/// What the moves of a packet say. Each of its hops to another switch is by the lowest exit of the row that
-/// serves it, in the routing table in use, which is that of what the present life has finished with in its
-/// epoch. Hops that follow each other under tables of one epoch and root lead over the links of that one
-/// topology, from life to life, along a legal route. Where it is delivered is the host to which it was sent.
+/// States what the moves of a packet say. Each of its hops to another switch is by the lowest exit of the row that
+/// serves it, in the routing table in use, which is the one of what the present life has finished with in its
+/// epoch. Consecutive hops under tables of one epoch and root lead over the links of that one topology, from life
+/// to life, along a legal route. A packet is delivered at the host to which it was sent.
 pub fn what_moves_say()
     ensures hops { OfEachHistory AreHopsByTables }
     ensures routes { OfEachHistory AreLegalRoutes }
     ensures delivered { OfEachHistory AreDelivered }
 {}
 
-/// A good link leads to who is at the far end of its wire: if a life shows a port as good, the other end
-/// that it names is the port at the far side by the wiring, of a life that was at that place at a moment at
-/// which this life was at its own.
+/// A good link leads to the far end of its wire: if a life shows a port as good, the other end that it names is the
+/// port at the far side by the wiring, of a life that was at that index at a point in time at which this life was
+/// at its own.
 pub fn a_good_link_leads_to_who_was_there()
     ensures { (script : ScriptOf) → IsScript script → (history : List Event) (place port : ℕ) (far : EndId)
         → place < length script.wires.switches
@@ -93,14 +93,14 @@ pub fn a_good_link_leads_to_who_was_there()
         → Met script history place ((world_after script history).switches place).life port far }
 {}
 
-/// If a history ends settled, each component of present lives is in one epoch and has finished it under
-/// its least life with one topology, whose entries are the members with their good links in their places in
-/// the tree, and each uses the table of it.
+/// If a history ends settled, each component of present lives is in one epoch and has finished it under its lowest
+/// life with one topology, whose entries are the members with their good links in their places in the tree, and
+/// each member uses the table of that topology.
 pub fn a_settled_history_has_finished()
     ensures { OfEachHistory IfSettled }
 {}
 
-/// All that is claimed of a history holds of each one: at each moment of it, and at its end if it ends
+/// All that is claimed of a history holds of every history: at each point in time, and at its end if it ends
 /// settled.
 pub fn what_is_claimed_holds()
     ensures { OfEachHistory HoldsThroughout }

@@ -1,14 +1,15 @@
-//! The world of a network plays the game of all epochs: what is claimed of it at each moment.
+//! autonet, laws: theorems that the simulated network plays the game of all epochs.
+//! They say what holds of a network at each point in time. The crate exists for the prover alone: it has
+//! definitions and theorems.
 //!
-//! It has no code that runs. It stands on `net_world`, whose definitions say what happens in a network,
-//! and on `switch_game`, whose laws hold of switches whatever happens to the frames between them.
+//! It depends on `net_world`, which defines what happens in a network, and on `switch_game`, whose theorems hold of
+//! switches whatever happens to the frames between them.
 //!
-//! Its laws: the moves of each history are a run of the game; at each moment lives that finished one epoch
-//! under one root hold one topology, which is a tree of exactly the lives that its links join; a table in use
-//! is that of such a topology, and none of its members uses an older one; each hop of a packet is by the
-//! table in use, hops under one topology form a legal route, and what is delivered is at its host; and if
-//! a history ends settled, each component has finished with exactly its members. That a history comes to an
-//! end is not claimed.
+//! Its contract: the moves of each history are a run of the game. At each point in time, lives that finished one
+//! epoch under one root hold one topology, which is a tree of exactly the lives that its links join; a table in use
+//! is the one of such a topology, and none of its members uses an older one; each hop of a packet is by the table
+//! in use, hops under one topology form a legal route, and what is delivered is at its host. If a history ends
+//! settled, each component has finished with exactly its members. We do not prove that a history comes to an end.
 #![tactic(auto)]
 
 pub mod law;

@@ -6,7 +6,7 @@ use Rattle.net_script.specs.Scripts.{ScriptOf}
 use Rattle.net_world.specs.Clauses.{HoldsThroughout}
 use Rattle.net_settling.specs.Settling.{SettlesSoon}
 
--- what holds at each moment of it, and what has finished if it ends settled; and how soon it settles
+-- what holds at each point in time of `history`, what has finished if it ends settled, and how soon it settles
 pub record HoldsAndSettles (script : ScriptOf) (history : List Event) : Type 0 where
   pub holds : HoldsThroughout script history
   pub settles : SettlesSoon script history

@@ -13,7 +13,7 @@ use Rattle.net_state.specs.declared.line.Line.TheVariants as line
 use Rattle.net_world.specs.Lines.{lines_of}
 use Rattle.net_world.specs.World.{WorldOf, begun, step, world_after}
 
--- the event is of a kind that only commands of the script are
+-- the event is of a kind that only commands of the script have
 abbrev pub is_of_script : Event → Bool
 is_of_script Tick = false
 is_of_script (Clock place) = false
@@ -30,7 +30,8 @@ is_of_script (Noise place port bytes) = true
 is_of_script (Send from to) = true
 is_of_script (Restart place) = true
 
--- A frame or a copy was lost since a loss was told, or for want of room. That its link was down is neither.
+-- The reasons for a loss of a frame or a copy: a command lost it (`Told`), or space ran out (`NoRoom`). A link that
+-- was down is neither.
 abbrev pub is_told : Loss → Bool
 is_told Down = false
 is_told Told = true
@@ -46,37 +47,37 @@ is_either Down = false
 is_either Told = true
 is_either (NoRoom need free) = true
 
--- the line tells of a loss with such a cause
+-- the line reports a loss for such a reason
 abbrev pub is_lost_by : (Loss → Bool) → Line → Bool
 is_lost_by test (line.Lost place port cause) = test cause
 is_lost_by test other = false
 
--- the event loses a frame or a copy with such a cause
+-- the event loses a frame or a copy for such a reason
 abbrev pub loses : (Loss → Bool) → WorldOf → Event → Bool
 loses test world event = list_any (is_lost_by test) (lines_of world event)
 
--- the event comes about, and is a command or loses a frame or a copy so
+-- the event is lawful, and is a command or loses a frame or a copy for such a reason
 abbrev pub disturbs : (Loss → Bool) → WorldOf → Event → Bool
 disturbs test world event = is_lawful world.fabric event && (is_of_script event || loses test world event)
 
--- the event comes about, and loses a frame or a copy since a loss was told
+-- the event is lawful, and loses a frame or a copy by a command
 abbrev pub loses_as_told : WorldOf → Event → Bool
 loses_as_told world event = is_lawful world.fabric event && loses is_told world event
 
--- the tick of the last event that is such a one, or this tick if none is
+-- the tick of the last event that `test` accepts, or `last` if there is none
 abbrev pub since : (WorldOf → Event → Bool) → ℕ → WorldOf → List Event → ℕ
 since test last world [] = last
 since test last world (event ∷ events) =
     since test (if test world event then world.fabric.tick else last) (step world event) events
 
--- the tick of the last disturbance in a history, and that of the last told loss; 0 if there was none
+-- the tick of the last disturbance in a history, and of the last commanded loss; 0 if there was none
 abbrev pub last_disturbance : (Loss → Bool) → ScriptOf → List Event → ℕ
 last_disturbance test script history = since (disturbs test) 0 (begun script) history
 
 abbrev pub last_loss : ScriptOf → List Event → ℕ
 last_loss script history = since loses_as_told 0 (begun script) history
 
--- No frame and no copy was lost for want of room. Noise may have been: it is all that a command puts on wires.
+-- No frame and no copy was lost because space ran out. Noise can have been lost: only a command puts it on wires.
 abbrev pub NoneForRoom : ScriptOf → List Event → Type 0
 NoneForRoom script history = (before later : List Event) (event : Event) → history ≡ before ++ event ∷ later
     → is_of_script event ≡ false → loses is_for_room (world_after script before) event ≡ false

@@ -18,12 +18,12 @@ use Rattle.net_settling.specs.Disturbances.{is_told, is_either, disturbs, last_d
 abbrev pub is_still : FabricOf → Bool
 is_still fabric = not (is_some (due_command fabric)) && not (nat_lt 0 (full_hands fabric)) && is_idle fabric
 
--- the state and the peer that each switch shows of each of its ports
+-- the state and the peer that each switch shows for each of its ports
 abbrev pub ports_shown : FabricOf → List (List PortViewOf)
 ports_shown fabric = map (λ at. at.note.ports) fabric.stations
 
--- After a history: the network agrees, no switch is spent, and no event but a disturbance changes the state
--- or the peer of a port.
+-- After a history the network agrees, no switch is spent, and only a disturbance changes the state or the peer of a
+-- port.
 pub record AreFinal (script : ScriptOf) (history : List Event) : Type 0 where
   pub agree : agrees (world_after script history).fabric ≡ true
   pub works : is_some_spent (world_after script history).fabric ≡ false
@@ -32,85 +32,85 @@ pub record AreFinal (script : ScriptOf) (history : List Event) : Type 0 where
       → ports_shown (world_after script (history ++ event ∷ [])).fabric
       ≡ ports_shown (world_after script history).fabric
 
--- So many ticks after the last disturbance, losses for want of room among them, the ports are final. 259 is
--- its own tick, and then at most 129 clocks and 129 answers at each end of a link.
+-- 259 ticks after the last disturbance, including losses because space ran out, the ports are final. 259 is its own
+-- tick, and then at most 129 clocks and 129 answers at each end of a link.
 abbrev pub PortsAreFinal : ScriptOf → List Event → Type 0
 PortsAreFinal script history =
     last_disturbance is_either script history + 259 ≤ (world_after script history).fabric.tick
     → AreFinal script history
 
--- And three ticks later, 262 after the last disturbance, if nothing is left to do, each body that was pushed
--- is acknowledged.
+-- Three ticks later, 262 after the last disturbance, if nothing is left to do, each body that was pushed is
+-- acknowledged.
 abbrev pub BodiesAreThrough : ScriptOf → List Event → Type 0
 BodiesAreThrough script history =
     last_disturbance is_either script history + 262 ≤ (world_after script history).fabric.tick
     → is_still (world_after script history).fabric ≡ true
     → is_some_unacked (world_after script history).fabric ≡ false
 
--- Such is each lawful history of a script.
+-- Each lawful history of a script is such.
 abbrev pub ArePortsFinal : ScriptOf → Type 0
 ArePortsFinal script = (history : List Event) → IsLawful script history → PortsAreFinal script history
 
 abbrev pub AreBodiesThrough : ScriptOf → Type 0
 AreBodiesThrough script = (history : List Event) → IsLawful script history → BodiesAreThrough script history
 
--- the last tick of a history at which a command was done or a told loss came
+-- the last tick of a history at which a command was done or a commanded loss came
 abbrev pub last_told : ScriptOf → List Event → ℕ
 last_told script history = last_disturbance is_told script history
 
--- At a moment of a history, more than 512 ticks after that tick, the network agrees, and no state and no
--- peer of a port is another at the end of the history.
+-- At a point in time of a history more than 512 ticks after `last_told`, the network agrees, and every port has the
+-- same state and peer at the end of the history.
 pub record AgreesAt (script : ScriptOf) (before later : List Event) : Type 0 where
   pub agree : agrees (world_after script before).fabric ≡ true
   pub stay : ports_shown (world_after script (before ++ later)).fabric
       ≡ ports_shown (world_after script before).fabric
 
--- So at each moment of a history that is more than 512 ticks after that tick. 512 is above the 259 ticks
--- after which the ports are final.
+-- At each point in time of a history that is more than 512 ticks after `last_told`, the network agrees for good.
+-- 512 is above the 259 ticks after which the ports are final.
 abbrev pub PortsSettle : ScriptOf → List Event → Type 0
 PortsSettle script history = (before later : List Event) → history ≡ before ++ later
     → last_told script history + 512 < (world_after script before).fabric.tick
     → AgreesAt script before later
 
--- At a moment at which all commands are done the clock is at most 1,024 ticks after that tick; and if it
--- is so late and nothing is left to do, so that a tick would come next, the network is settled.
+-- When all commands are done the clock is at most 1,024 ticks after `last`. If it is that late and nothing is left
+-- to do, so that a tick would come next, the network is settled.
 pub record SettlesAt (script : ScriptOf) (last : ℕ) (before : List Event) : Type 0 where
   pub within : (world_after script before).fabric.tick ≤ last + 1024
   pub settled : is_still (world_after script before).fabric ≡ true
       → last + 1024 ≤ (world_after script before).fabric.tick
       → is_settled (world_after script before).fabric ≡ true
 
--- So at each moment of a history at which all commands are done. 1,024 is above the 262 ticks after which
--- the bodies are through.
+-- `SettlesAt` holds at each point in time of a history at which all commands are done. 1,024 is above the 262 ticks
+-- after which the bodies are through.
 abbrev pub MomentsSettle : ScriptOf → List Event → Type 0
 MomentsSettle script history = (before later : List Event) → history ≡ before ++ later
     → are_all_done (world_after script before).fabric ≡ true
     → SettlesAt script (last_told script history) before
 
--- the limit on ticks is 1,024 or more above the times of all commands and the last told loss
+-- the limit on ticks is 1,024 or more above the times of all commands and the last commanded loss
 pub record IsLimitLate (script : ScriptOf) (history : List Event) : Type 0 where
   pub commands : All (λ (command : Command). command.time + 1024 ≤ script.limits.ticks) script.commands
   pub losses : last_loss script history + 1024 ≤ script.limits.ticks
 
--- A history settles: its ports do, and each moment does; and if the limit on ticks is late enough it does
--- not end unsettled.
+-- A history settles: each point in time does, as in `MomentsSettle`; and if the limit on ticks is late enough it
+-- does not end unsettled.
 pub record Settles (script : ScriptOf) (history : List Event) : Type 0 where
   pub moments : MomentsSettle script history
   pub in_time : IsLimitLate script history → end_of script history ≢ Some ending.Unsettled
 
--- It is claimed of histories without a pace in which no frame and no copy was lost for want of room.
+-- `claim` holds of `history` if there is no pace and no frame and no copy was lost because space ran out.
 abbrev pub IfUnpacedAndRoomy : ScriptOf → (ScriptOf → List Event → Type 0) → List Event → Type 0
 IfUnpacedAndRoomy script claim history =
     script.pace ≡ None → NoneForRoom script history → claim script history
 
--- What is claimed of each lawful history of a script of how soon it settles: of its ports, and of all of it.
+-- How soon a lawful history of a script settles: its ports, and all of it.
 pub record SettlesSoon (script : ScriptOf) (history : List Event) : Type 0 where
   pub ports : IfUnpacedAndRoomy script PortsSettle history
   pub all : IfUnpacedAndRoomy script Settles history
 
--- The three conditions under which no lawful history ends unsettled: there is no pace, no frame and no copy
--- was lost for want of room, and the limit on ticks is 1,024 or more above the times of all commands and the
--- last told loss.
+-- The three conditions under which no lawful history ends unsettled: there is no pace, no frame and no copy was
+-- lost because space ran out, and the limit on ticks is 1,024 or more above the times of all commands and the last
+-- commanded loss.
 pub record HasTime (script : ScriptOf) (history : List Event) : Type 0 where
   pub unpaced : script.pace ≡ None
   pub roomy : NoneForRoom script history

@@ -23,7 +23,7 @@ use Rattle.net_state.specs.declared.hand.Hand.TheVariants as hand
 use Rattle.net_state.specs.Fabric.{FabricOf, station, clock_due_at}
 use Rattle.net_world.specs.World.{WorldOf}
 
--- two ports at the ends of a link, each of the switch at a place: the near end, and the far one
+-- two ports at the ends of a link: `port` of the switch at index `place`, the near end, and the far one
 pub record LinkOf : Type 0 where
   pub place : ℕ
   pub port : ℕ
@@ -35,7 +35,7 @@ abbrev pub turned : LinkOf → LinkOf
 turned link =
     record { place = link.far_place; port = link.far_port; far_place = link.place; far_port = link.port }
 
--- the switch at the near end of a link, and that at the far one; and these two ends, by their lives
+-- the switch at the near end of a link and the switch at the far end, and these two ends, by their lives
 abbrev pub here : WorldOf → LinkOf → SwitchOf
 here world link = world.switches link.place
 
@@ -48,7 +48,7 @@ end_here world link = end_at (here world link) link.port
 abbrev pub end_there : WorldOf → LinkOf → EndId
 end_there world link = end_at (there world link) link.far_port
 
--- what is in hand is a frame that came by this port
+-- a frame that came by this port is in hand
 abbrev pub came_by : ℕ → Hand → Bool
 came_by port hand.Empty = false
 came_by port (hand.Clock now samples) = false
@@ -60,18 +60,17 @@ under_way_to fabric at port =
     wire_at fabric.wires (place at port)
     ++ (if came_by port (station fabric at).hand then hand_of fabric.wires at else [])
 
--- bytes are a frame of such a kind
+-- the bytes form a frame of the kind that `test` accepts
 abbrev pub is_such : (Frame → Bool) → List ℕ → Bool
 is_such test bytes = option_map_or test (frame_of bytes) false
 
--- some of those under way to the far end are
+-- some bytes under way to the far end form such a frame
 abbrev pub is_some_under_way : (Frame → Bool) → WorldOf → LinkOf → Bool
 is_some_under_way test world link =
     list_any (is_such test) (under_way_to world.fabric link.far_place link.far_port)
 
--- Whether a frame is the probe of this number from an end, and whether it is the reply to that. Whether it is
--- the body of this number in a session of an epoch, and whether it is the acknowledgement of this number
--- there.
+-- `is_probe` and `is_reply`: a frame is the probe of this number from an end, or the reply to that probe.
+-- `is_carry` and `is_ack`: a frame is the body of this number in a session of an epoch, or its acknowledgement.
 abbrev pub is_probe : EndId → ℕ → Frame → Bool
 is_probe from nonce (Probe sender number) = is_same_end sender from && (number == nonce)
 is_probe from nonce other = false
@@ -92,13 +91,13 @@ is_ack epoch from to number (Ack of sender asked acked) =
     (of == epoch) && is_same_end sender from && is_same_end asked to && (acked == number)
 is_ack epoch from to number other = false
 
--- what is in hand is a clock
+-- a clock is in hand
 abbrev pub is_clock : Hand → Bool
 is_clock hand.Empty = false
 is_clock (hand.Clock now samples) = true
 is_clock (hand.Frame port) = false
 
--- a switch has handled its clock of this tick: it is not due, nor in hand
+-- the switch at index `place` has handled its clock of this tick: the clock is neither due nor in hand
 abbrev pub has_clocked : FabricOf → ℕ → Bool
 has_clocked fabric place = not (clock_due_at fabric place) && not (is_clock (station fabric place).hand)
 
@@ -123,7 +122,7 @@ view world link = record {
 abbrev pub is_session : WorldOf → LinkOf → Bool
 is_session world link = is_end (peer_among (here world link).card.links link.port) (end_there world link)
 
--- what the far end received counts in its session with this end, if it is not in a lower epoch
+-- what the far end received counts in its session with this end, if the far end is not in a lower epoch
 abbrev pub is_received_here : WorldOf → LinkOf → Bool
 is_received_here world link =
     is_session world (turned link) && not (nat_lt (there world link).epoch (here world link).epoch)
@@ -148,8 +147,8 @@ way world link = record {
       (turned link);
 }
 
--- The cut: so many ticks are over after this one, in each of which both ends did what a tick without a loss
--- asks of them, and so far they do in the tick under way.
+-- The cut: `ticks` ticks have ended after the tick `last`, in each of which both ends did what a tick without a
+-- loss requires; so far they also do in the tick under way.
 pub record IsCut (last : ℕ) (world : WorldOf) (link : LinkOf) : Type 0 where
   pub ticks : ℕ
   pub at_here : History
@@ -162,7 +161,7 @@ pub record IsCut (last : ℕ) (world : WorldOf) (link : LinkOf) : Type 0 where
       EndRun (end_there world link) (end_here world link) (tick_begins at_there at_here)
       (view world (turned link))
 
--- And since the two lives began, what was sent from here to there was a run of this direction.
+-- Since the two lives began, what was sent from here to there was a run of this direction.
 pub record IsRun (base : ℕ) (world : WorldOf) (link : LinkOf) : Type 0 where
   pub first : Direction
   pub starts : Starts first

@@ -1,4 +1,5 @@
-//! Laws of how soon a network settles: without a pace, counted from the last command done or the last loss.
+//! Theorems about how soon a network settles: without a pace, counted from the last command or the last commanded
+//! loss.
 
 ghost use Rattle.std.specs.Prelude.{◌≡◌, ◌≢◌, ◌≤◌, ◌<◌, ◌+◌, ◌++◌, ℕ, suc, Bool, List, None, Some, true, false};
 ghost use Rattle.an_base.specs.declared.event.Event.{Event};
@@ -21,8 +22,7 @@ ghost use Rattle.net_settling.specs.Disturbances.{is_either, last_disturbance};
 ghost use Rattle.net_settling.specs.Settling.{AreBodiesThrough, ArePortsFinal, HasTime, IfUnpacedAndRoomy, PortsSettle, Settles};
 ghost use Rattle.net_settling.specs.Claims.{HoldsAndSettles};
 
-/// The clock never goes back; the last disturbance is no later than the clock, and no earlier in a longer
-/// history.
+/// The clock never goes back; the last disturbance is no later than the clock, and no earlier in a longer history.
 pub fn a_disturbance_is_not_later()
     ensures clock { (world : WorldOf) (event : Event) → world.fabric.tick ≤ (step world event).fabric.tick }
     ensures past { (test : Loss → Bool) (script : ScriptOf) (history : List Event)
@@ -31,9 +31,9 @@ pub fn a_disturbance_is_not_later()
         → last_disturbance test script history ≤ last_disturbance test script (history ++ more) }
 {}
 
-/// A link that was cut into ticks: at the end of a tick there is one more; 259 ticks after the last
-/// disturbance its ends know each other; and three ticks after that each body on it is acknowledged, if both
-/// ends have a session in which each sent a body, and nothing is under way.
+/// A link settles, if it was cut into ticks. At the end of a tick there is one more; 259 ticks after the last
+/// disturbance its ends know each other; and three ticks later each body on it is acknowledged, if both ends have a
+/// session in which each sent a body, and nothing is under way.
 pub fn a_link_settles()
     ensures ends { (last : ℕ) (world : WorldOf) (link : LinkOf) → (cut : IsCut last world link)
         → TickEnds (view world link) → TickEnds (view world (turned link))
@@ -55,9 +55,9 @@ pub fn a_link_settles()
         ≡ highest ((there world link).sendings link.far_port)) }
 {}
 
-/// Without a pace, while no switch is spent, each link that is up was cut into ticks since the last
-/// disturbance; and each direction of each link between two switches is a run since the lives at its ends
-/// began, in which no frame was lost from 259 ticks after the last disturbance on.
+/// Without a pace, while no switch is spent, each link that is up was cut into ticks since the last disturbance.
+/// Each direction of each link between two switches is a run since the lives at its ends began, in which no frame
+/// was lost from 259 ticks after the last disturbance on.
 pub fn each_link_is_cut()
     ensures cut { (script : ScriptOf) → IsScript script → script.pace ≡ None → (history : List Event)
         → is_some_spent (world_after script history).fabric ≡ false
@@ -73,35 +73,35 @@ pub fn each_link_is_cut()
         → IsRun (last_disturbance is_either script history + 259) (world_after script history) link }
 {}
 
-/// Without a pace, 259 ticks after the last disturbance the network agrees, no switch is spent, and no event
-/// but a disturbance changes a port. So more than 512 ticks after the last command done or told loss it
-/// agrees for good, if no frame and no copy was lost for want of room.
+/// Without a pace, 259 ticks after the last disturbance the network agrees, no switch is spent, and only a
+/// disturbance changes a port. So more than 512 ticks after the last command or commanded loss it agrees for ever,
+/// if no frame and no copy was lost because space ran out.
 pub fn the_ports_are_final()
     ensures fixed { (script : ScriptOf) → IsScript script → script.pace ≡ None → ArePortsFinal script }
     ensures settle { (script : ScriptOf) → IsScript script → (history : List Event) → IsLawful script history
         → IfUnpacedAndRoomy script PortsSettle history }
 {}
 
-/// Without a pace, three ticks after the ports are final each body that was pushed is acknowledged, if
-/// nothing is left to do. So once all commands are done, and if no frame and no copy was lost for want of
-/// room, the clock is at most 1,024 ticks after the last command done or told loss. At that tick, if nothing
-/// is left to do, the history is settled.
+/// Without a pace, three ticks after the ports are final each body that was pushed is acknowledged, if nothing is
+/// left to do. So once all commands are done, and if no frame and no copy was lost because space ran out, the clock
+/// is at most 1,024 ticks after the last command or commanded loss. At that tick, if nothing is left to do, the
+/// history is settled.
 pub fn all_settles()
     ensures through { (script : ScriptOf) → IsScript script → script.pace ≡ None → AreBodiesThrough script }
     ensures settles { (script : ScriptOf) → IsScript script → (history : List Event) → IsLawful script history
         → IfUnpacedAndRoomy script Settles history }
 {}
 
-/// So no lawful history ends unsettled that had the time to settle: without a pace, without a frame or a copy lost
-/// for want of room, and with a limit on ticks that is 1,024 or more above the times of all commands and the last
-/// told loss.
+/// No lawful history that had the time to settle ends unsettled: without a pace, without a frame or a copy lost
+/// because space ran out, and with a limit on ticks that is 1,024 or more above the times of all commands and the
+/// last commanded loss.
 pub fn none_with_time_ends_unsettled()
     ensures { (script : ScriptOf) → IsScript script → (history : List Event) → IsLawful script history
         → HasTime script history → end_of script history ≢ Some ending.Unsettled }
 {}
 
-/// All that is claimed of a lawful history holds of each one: at each moment of it, at its end if it ends
-/// settled, and of how soon it settles.
+/// All that is claimed of a lawful history holds of every one: at each point in time, at its end if it ends
+/// settled, and how soon it settles.
 pub fn what_is_claimed_holds()
     ensures { (script : ScriptOf) → IsScript script → (history : List Event) → IsLawful script history
         → HoldsAndSettles script history }

@@ -1,10 +1,12 @@
-//! How soon a network settles after it was last disturbed.
+//! autonet, laws: theorems about how soon the simulated network settles after its last disturbance.
+//! The crate exists for the prover alone: it has definitions and theorems.
 //!
-//! It has no code that runs. It stands on `net_world`, whose definitions say what happens in a network,
-//! on the laws of one link in `link_settling`, and on `net_game`, from which it has what holds at each moment.
-//! Its contract: 259 ticks after it was last disturbed a network without a pace agrees. Three ticks later, if
-//! nothing is left to do, all bodies are acknowledged. So no lawful history ends unsettled that had the time
-//! to settle. And all that is claimed of a lawful history (`HoldsAndSettles`) holds of each.
+//! It depends on `net_world`, which defines what happens in a network, on the theorems about one link in
+//! `link_settling`, and on `net_game` for what holds at each point in time.
+//!
+//! Its contract: without a pace, a network agrees 259 ticks after it was last disturbed. Three ticks later, if
+//! nothing is left to do, all bodies are acknowledged. So no lawful history that had the time to settle ends
+//! unsettled. All that is claimed of a lawful history (`HoldsAndSettles`) holds of every one.
 #![tactic(auto)]
 
 pub mod law;
