@@ -172,7 +172,7 @@ impl Fabric {
         self.stations.get(s)
     }
 
-    /// Returns the table in use at switch `s`; `None` for other values.
+    /// Returns the table in use at switch `s`; `None` if there is no such switch.
     pub fn table(&self, s: Place) -> Option<&Table>
         ensures { option_copied result ≡ table_at self.now s }
     {
@@ -223,7 +223,8 @@ impl Fabric {
         self.traffic.first()
     }
 
-    // The switch and port at the far end of a link of two switch ports, up or down; `None` for other values.
+    // The switch and port at the far end of a link of two switch ports, up or down. It returns a value for all
+    // arguments.
     fn far_switch(&self, s: Place, port: Port) -> Option<(Place, Port)>
         ensures { result ≡ switch_behind (side_of_port self.now s port).far }
     {
@@ -496,7 +497,7 @@ impl Fabric {
         }
     }
 
-    /// Reports whether `event` is lawful as the next event, for all values of it.
+    /// Reports whether `event`, whatever its fields, is lawful next.
     #[tactic(auto, unfolding(crate::specs::Lawful::is_lawful))]
     pub fn is_lawful(&self, event: &Event) -> bool
         ensures { result ≡ is_lawful self.now event.now }
@@ -527,7 +528,7 @@ impl Fabric {
         }
     }
 
-    /// Returns the next work of switch `s`, if it holds nothing; `last` is the port that it last took a frame
+    /// Returns what switch `s` does next when it holds nothing; `last` is the port that it last took a frame
     /// from, or 0.
     ///
     /// The switch must exist, and its boot must be below 2^32 - 1.

@@ -95,7 +95,7 @@ impl Plan {
         &self.hosts
     }
 
-    /// Returns the host at index `host`; no host for other values.
+    /// Returns the host at index `host`, or no host if there is none.
     pub fn host(&self, host: u16) -> HostOn
         ensures { result ≡ slice_index_or self.now.wires.hosts host no_host }
     {

@@ -159,7 +159,7 @@ impl Stations {
         &self.items[usize::from(s)]
     }
 
-    /// Returns the table in use at switch `s`; `None` for other values.
+    /// Returns the table in use at switch `s`; `None` if there is no such switch.
     pub fn table(&self, s: Place) -> Option<&Table>
         ensures { option_copied result ≡ option_map (λ used. used.table) (station_in self.now s).table }
     {
@@ -169,7 +169,7 @@ impl Stations {
         }
     }
 
-    /// Returns the epoch of the table in use at switch `s`, 0 if there is none, and for other values.
+    /// Returns the epoch of the table in use at switch `s`, 0 if there is no table or no such switch.
     pub fn epoch_in_use(&self, s: Place) -> u64
         ensures { result ≡ option_map_or (λ used. used.epoch) (station_in self.now s).table 0 }
     {
@@ -179,7 +179,7 @@ impl Stations {
         }
     }
 
-    /// Returns what switch `s` shows of `port`; nothing for other values.
+    /// Returns what switch `s` shows of `port`; nothing if there is no such switch or the port is above 12.
     pub fn port(&self, s: Place, port: Port) -> PortView
         ensures { result ≡ slice_index_or (station_in self.now s).note.ports (port - 1) no_view }
     {

@@ -41,8 +41,8 @@ AreOnePicture script history = (one other : LifeId) (epoch : ℕ) (topo same : T
     → FinishedAt script history one epoch topo → FinishedAt script history other epoch same
     → root_of topo ≡ root_of same → topo ≡ same
 
--- `topo` is a tree over its links, `life` is a member of it, and its numbers are as its numbering gives them: different,
--- and from 1 to 126
+-- `topo` is a tree over its links, `life` is a member of it, and its numbers are as its numbering gives them:
+-- different, and from 1 to 126
 pub record IsTopology (life : LifeId) (topo : TopoOf) : Type 0 where
   pub graph : IsGraph topo.entries
   pub tree : IsTree topo.entries

@@ -1,4 +1,4 @@
-//! A theorem about histories that were worked out by hand, with one event changed.
+//! A theorem about histories that were worked out apart from the definitions, with one event changed.
 
 ghost use Rattle.std.specs.Prelude.{◌≡◌, take, None};
 ghost use Rattle.an_base.specs.declared.event.Event.TheVariants.{Tick, Clock, Take, Handle, Load, Move};
