@@ -1,4 +1,4 @@
--- What each event makes of the fabric.
+-- The effect of each event on the fabric.
 
 use Rattle.std.specs.Prelude.{◌≡◌, ◌≢◌, ◌+◌, ◌-◌, ◌*◌, ◌==◌, ◌≤◌, ℕ, List, [], ◌∷◌, ◌++◌, replicate, slice_index_or, Option, Some, None, is_some, Result, Ok, Err, Bool, true, false, if◌then◌else◌}
 use Rattle.std.specs.Option.{option_map_or}
@@ -21,19 +21,19 @@ use Rattle.net_state.specs.declared.hand.Hand.TheVariants as hand
 use Rattle.net_state.specs.Fabric.{FabricOf, StationOf, station, with_station, samples_of, host_on, host_at}
 use Rattle.net_state.specs.Fabric.{next_at, no_view, table_at}
 
--- one event more
+-- the fabric with one event more
 abbrev pub counted : FabricOf → FabricOf
 counted fabric = record fabric { since = fabric.since + 1; events = fabric.events + 1 }
 
--- a command is done
+-- the fabric with one command more done
 abbrev pub done_command : FabricOf → FabricOf
 done_command fabric = counted (record fabric { done = fabric.done + 1 })
 
--- the clock of the network goes on
+-- the fabric after a tick
 abbrev pub after_tick : FabricOf → FabricOf
 after_tick fabric = record fabric { tick = fabric.tick + 1; since = 0; events = fabric.events + 1 }
 
--- a switch takes its clock in hand, with the samples of this moment
+-- the fabric after a switch takes its clock event, with the current samples
 abbrev pub after_clock : ℕ → FabricOf → FabricOf
 after_clock place fabric = counted (with_station place
     (record (station fabric place) {
@@ -42,35 +42,35 @@ after_clock place fabric = counted (with_station place
     })
     fabric)
 
--- a switch takes a frame in hand
+-- the fabric after a switch takes a frame from `port`
 abbrev pub after_take : ℕ → ℕ → FabricOf → FabricOf
 after_take place port fabric = counted (with_station place
     (record (station fabric place) { hand = hand.Frame port })
     (record fabric { wires = take_from (port_place place port) (port_place place 0) fabric.wires }))
 
--- what was in hand is given up
+-- the wires after what a switch held is dropped
 abbrev pub released : Hand → ℕ → WiresOf → WiresOf
 released hand.Empty place wires = wires
 released (hand.Clock now samples) place wires = wires
 released (hand.Frame port) place wires = release_from (port_place place 0) wires
 
--- A frame is put on the wire out of a switch, or several in turn. A port without a link of two switch ports
--- has none.
+-- the wires after a frame is put on the wire out of a switch; a port without a link of two switch ports has no wire
 abbrev pub put_out : ℕ → BytesOut → WiresOf → WiresOf
 put_out place out wires =
     if is_link (side_at wires (port_place place out.port)).far
     then put_into (port_place place out.port) (wire_out wires place out.port) out.bytes wires
     else wires
 
+-- the wires after frames are put, in order, on the wires out of a switch
 abbrev pub all_put_out : ℕ → List BytesOut → WiresOf → WiresOf
 all_put_out place [] wires = wires
 all_put_out place (out ∷ more) wires = all_put_out place more (put_out place out wires)
 
--- a table goes out of use if another epoch was joined
+-- the table in use, if it stays in use
 abbrev pub kept_table : Bool → Option TableFor → Option TableFor
 kept_table stays table = if stays then table else None
 
--- a switch shows this now
+-- the station after its switch shows this; if another epoch was joined, the table goes out of use
 abbrev pub showing : NoteOf → Bool → StationOf → StationOf
 showing note spent at = record at {
   table = kept_table (note.epoch == at.note.epoch) at.table;
@@ -78,14 +78,13 @@ showing note spent at = record at {
   spent = spent;
 }
 
--- Of the ports of a switch this one alone can be shown as another than before: its life is the same, and each
--- other port is shown as it was.
+-- only `port` can be shown differently than before: the life is the same, and every other port is shown as before
 pub record ShowsOnly (port : ℕ) (before after : NoteOf) : Type 0 where
   pub life : after.life ≡ before.life
   pub others : (other : ℕ) → 1 ≤ other → other ≢ port
       → slice_index_or after.ports (other - 1) no_view ≡ slice_index_or before.ports (other - 1) no_view
 
--- a switch has handled what it had in hand: these frames go out, and this is what it shows now
+-- the fabric after a switch has handled what it held: these frames go out, and this is what it shows
 abbrev pub after_handle : ℕ → List BytesOut → NoteOf → Bool → FabricOf → FabricOf
 after_handle place frames note spent fabric = counted (with_station place
     (record (showing note spent (station fabric place)) { hand = hand.Empty })
@@ -93,58 +92,61 @@ after_handle place frames note spent fabric = counted (with_station place
       wires = all_put_out place frames (released (station fabric place).hand place fabric.wires);
     }))
 
--- a switch loads a table
+-- the fabric after a switch loads a table
 abbrev pub after_load : ℕ → TableFor → NoteOf → FabricOf → FabricOf
 after_load place table note fabric =
     counted (with_station place (record (station fabric place) { table = Some table; note = note }) fabric)
 
--- The three parts of handling, in turn: what is in hand is given up; frames are put on wires one by one; and
--- the switch shows what became of it.
+-- the fabric after the first of the three parts of handling: what the switch held is dropped; then frames are put on
+-- wires one by one, and the switch shows the result
 abbrev pub emptied : ℕ → FabricOf → FabricOf
 emptied place fabric = with_station place (record (station fabric place) { hand = hand.Empty })
     (record fabric { wires = released (station fabric place).hand place fabric.wires })
 
+-- the fabric after the last of the three parts of handling: the switch shows this, and the event is counted
 abbrev pub shows : ℕ → NoteOf → Bool → FabricOf → FabricOf
 shows place note spent fabric =
     counted (with_station place (showing note spent (station fabric place)) fabric)
 
--- the wires on which the frames of a switch go out: what it has in hand is given up
+-- the wires that the frames of a switch go out on: what it held is dropped
 abbrev pub wires_at_hand : FabricOf → ℕ → WiresOf
 wires_at_hand fabric place = released (station fabric place).hand place fabric.wires
 
--- a switch begins its next life: its clock is due, and it uses no table
+-- the station after its switch starts its next life: its clock event is due, and it uses no table
 abbrev pub restarted : ℕ → NoteOf → StationOf → StationOf
 restarted tick note at = record at { clock = tick; table = None; note = note; spent = false }
 
+-- the fabric after a switch starts its next life
 abbrev pub after_restart : ℕ → NoteOf → FabricOf → FabricOf
 after_restart place note fabric =
     done_command (with_station place (restarted fabric.tick note (station fabric place)) fabric)
 
--- commands that change links and wires
+-- the fabric after a command that changes links and wires
 abbrev pub on_wires : (WiresOf → WiresOf) → FabricOf → FabricOf
 on_wires change fabric = done_command (record fabric { wires = change fabric.wires })
 
--- bytes that are no frame are put on a wire
+-- bytes that do not form a frame
 abbrev pub noise : ℕ → List ℕ
 noise bytes = replicate bytes 0
 
+-- the wires after such bytes are put on the wire out of a switch
 abbrev pub noise_out : ℕ → ℕ → ℕ → WiresOf → WiresOf
 noise_out place port bytes wires =
     put_into (port_place place port) (wire_out wires place port) (noise bytes) wires
 
--- the number of a table and a port make an address
+-- the address of a port of the switch that has this table
 abbrev pub address_of : TableOf → ℕ → ℕ
 address_of table port = table.number * 16 + port
 
--- A host sends a packet to another one: it has an address if the port of the first shows a host and the
--- switch of the other has a table in use.
+-- the address of a packet between two hosts: there is one if the port of the first shows a host, and the switch of the
+-- other has a table in use
 abbrev pub address_for : FabricOf → HostOn → HostOn → Result ℕ DropCause
 address_for fabric from to =
     if is_some (host_at fabric from.s from.port)
     then option_map_or (λ table. Ok (address_of table to.port)) (table_at fabric to.s) (Err cause.NoTable)
     else Err cause.NoPort
 
--- it is under way if it has an address
+-- a packet as it is sent to this address
 abbrev pub packet_to : ℕ → HostOn → HostOn → ℕ → PacketOf
 packet_to number from to address = record {
   packet = number;
@@ -155,22 +157,24 @@ packet_to number from to address = record {
   uid = to.uid;
 }
 
+-- the packet in flight, if it has an address
 abbrev pub admitted_as : ℕ → HostOn → HostOn → Result ℕ DropCause → List PacketOf
 admitted_as number from to (Ok address) = packet_to number from to address ∷ []
 admitted_as number from to (Err why) = []
 
+-- the packet in flight that a host sends to another one, if it has an address
 abbrev pub admitted : FabricOf → HostOn → HostOn → List PacketOf
 admitted fabric from to = admitted_as (fabric.sent + 1) from to (address_for fabric from to)
 
--- the packet has the next number, which is used up also if it has no address
+-- the fabric after a host sends a packet; the packet takes the next number, even if it has no address
 abbrev pub after_send : ℕ → ℕ → FabricOf → FabricOf
 after_send from to fabric = done_command (record fabric {
   packets = fabric.packets ++ admitted fabric (host_on fabric from) (host_on fabric to);
   sent = fabric.sent + 1;
 })
 
--- What a command makes of the fabric. A restart, which belongs to a switch, is apart; other events are no
--- commands.
+-- the fabric after a command other than a restart, which belongs to a switch; unchanged after an event that is no
+-- command
 abbrev pub after_command : Event → FabricOf → FabricOf
 after_command (Fail place port) fabric = on_wires (fail_at (port_place place port)) fabric
 after_command (Repair place port) fabric = on_wires (repair_at (port_place place port)) fabric
@@ -184,15 +188,16 @@ after_command (Noise place port bytes) fabric = on_wires (noise_out place port b
 after_command (Send from to) fabric = after_send from to fabric
 after_command event fabric = fabric
 
--- a packet makes one hop
+-- the next hop of a packet
 abbrev pub hop_of : FabricOf → PacketOf → Hop
 hop_of fabric packet = hop_in (table_at fabric) (host_at fabric) (next_at fabric) packet
 
--- the packets under way after the hop of the one of this number; as before, if there is none
+-- the packets in flight after the next hop of this packet; unchanged if there is none
 abbrev pub hopped : ℕ → Option PacketOf → FabricOf → List PacketOf
 hopped number packet fabric =
     hopped_in (table_at fabric) (host_at fabric) (next_at fabric) number packet fabric.packets
 
+-- the fabric after the packet with this number makes its next hop
 abbrev pub after_move : ℕ → FabricOf → FabricOf
 after_move number fabric =
     counted (record fabric { packets = hopped number (packet_of number fabric.packets) fabric })

@@ -1,4 +1,4 @@
--- How a `Fabric` is stored. No public clause cites this module.
+-- The storage of a `Fabric`. No public clause uses this module.
 
 use Rattle.std.specs.Prelude.{◌≡◌, ℕ, List, [], length, Option}
 use Rattle.net_graph.specs.declared.wiring.SwitchAt.{SwitchAt}
@@ -14,7 +14,7 @@ use Rattle.net_state.specs.Fabric.{FabricOf}
 use Rattle.net_state.specs.Fits.{Fits}
 use Rattle.net_state.specs.Tallies.{StationsOf}
 
--- this is what a run reads of a script
+-- these are the parts of the script that a run reads
 pub record IsPlanOf (script : ScriptOf) (switches : List SwitchAt) (links : List LinkAt)
     (hosts : List HostOn) (commands : List Command) (epoch : ℕ) (pace : Option ℕ)
     (limits : Limits) : Type 0 where
@@ -27,7 +27,7 @@ pub record IsPlanOf (script : ScriptOf) (switches : List SwitchAt) (links : List
   pub pace_is : pace ≡ script.pace
   pub limits_are : limits ≡ script.limits
 
--- the fabric of which these are parts, if no packet is under way and nothing has come yet
+-- the fabric of these parts, without packets and events
 abbrev pub fabric_of_parts : ScriptOf → WiresOf → StationsOf → FabricOf
 fabric_of_parts script wires stations = record {
   script = script;
@@ -41,7 +41,7 @@ fabric_of_parts script wires stations = record {
   events = 0;
 }
 
--- and with the packets under way and what has come
+-- the fabric of these parts, with packets and events
 abbrev pub fabric_of_all : ScriptOf → WiresOf → StationsOf → TrafficOf → ℕ → Past → FabricOf
 fabric_of_all script wires stations traffic sent past =
     record (fabric_of_parts script wires stations) {
@@ -52,7 +52,7 @@ fabric_of_all script wires stations traffic sent past =
       events = past.events;
     }
 
--- All that a `Fabric` keeps: what is so of every fabric, and room for as many packets as there are commands.
+-- the invariant of a `Fabric`: that of every fabric, and room for as many packets as there are commands
 pub record IsKept (fabric : FabricOf) (traffic : TrafficOf) : Type 0 where
   pub fits : Fits fabric
   pub most : traffic.most ≡ length fabric.script.commands

@@ -1,4 +1,4 @@
--- Which events may come next.
+-- Which events are lawful next.
 
 use Rattle.std.specs.Prelude.{◌&&◌, ◌||◌, ℕ, nat_lt, nat_le, not, List, [], ◌∷◌, Option, Some, None, is_some, Bool, true, false}
 use Rattle.std.specs.Option.{option_map_or}
@@ -29,27 +29,28 @@ event_code (Send from to) = 11 ∷ from ∷ to ∷ []
 event_code (Move packet) = 12 ∷ packet ∷ []
 event_code (Restart place) = 13 ∷ place ∷ []
 
+-- whether two events are equal
 abbrev pub is_same_event : Event → Event → Bool
 is_same_event one other = is_eq (slice_cmp nat_cmp (event_code one) (event_code other))
 
--- the event is that of the next command, which is due
+-- whether the event is that of the next command, which is due
 abbrev pub is_command : FabricOf → Event → Bool
 is_command fabric event = option_map_or (is_same_event event) (due_command fabric) false
 
--- there were events enough since the last tick, if the script sets a pace
+-- whether enough events came since the last tick, if the script sets a pace
 abbrev pub is_paced : Option ℕ → ℕ → Bool
 is_paced None since = false
 is_paced (Some pace) since = nat_le pace since
 
--- A tick may come: no command is due, no packet is under way, no hand is full, no clock is due, the last
--- tick has not come; and nothing is to be taken or loaded, or there were events enough since the last tick.
+-- whether a tick is lawful: no command is due, no packet is in flight, no switch holds anything, no clock event is due,
+-- and the last tick has not come; and nothing is left to take or load, or enough events came since the last tick
 abbrev pub is_tick_due : FabricOf → Bool
 is_tick_due fabric =
     not (is_some (due_command fabric)) && not (is_some_packet fabric) && not (nat_lt 0 (full_hands fabric))
     && not (is_some_clock_due fabric) && nat_lt fabric.tick fabric.script.limits.ticks
     && ((are_wires_empty fabric && not (is_some_load_due fabric)) || is_paced fabric.script.pace fabric.since)
 
--- what an event of each kind needs besides
+-- whether the further conditions of an event hold, by its kind
 abbrev pub is_ready : FabricOf → Event → Bool
 is_ready fabric Tick = is_tick_due fabric
 is_ready fabric (Clock place) =
@@ -64,15 +65,16 @@ is_ready fabric (Move packet) = is_some (packet_of packet fabric.packets)
 is_ready fabric (Restart place) = is_command fabric (Restart place) && not (is_full_at fabric place)
 is_ready fabric event = is_command fabric event
 
+-- whether the event is a handling
 abbrev pub is_handle : Event → Bool
 is_handle (Handle place) = true
 is_handle event = false
 
--- If a switch is spent, or there is too little room, only what is in hand may still be handled.
+-- whether only what switches hold can still be handled: a switch is spent, or there is too little room
 abbrev pub is_barred : FabricOf → Bool
 is_barred fabric = is_some_spent fabric || nat_lt (room fabric) 2
 
--- The event may come next: no end has come, it is not barred, and what it needs is there.
+-- whether the event is lawful next: the history has not ended, the event is not barred, and its further conditions hold
 unfoldable pub is_lawful : FabricOf → Event → Bool
 is_lawful fabric event =
     not (is_some (ending_of fabric)) && (is_handle event || not (is_barred fabric)) && is_ready fabric event

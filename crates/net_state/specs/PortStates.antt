@@ -1,10 +1,10 @@
--- The states that a switch may show of a port.
+-- The states that a switch can show of a port.
 
 use Rattle.std.specs.Prelude.{◌==◌, ℕ, Bool}
 use Rattle.an_base.specs.declared.port.PortState.{PortState}
 use Rattle.an_base.specs.declared.port.PortState.TheVariants as state
 
--- states by number, to tell whether two differ
+-- a number for each state, to compare states
 abbrev pub state_code : PortState → ℕ
 state_code state.Dead = 0
 state_code state.Checking = 1
@@ -13,7 +13,7 @@ state_code state.Who = 3
 state_code state.Loop = 4
 state_code state.Good = 5
 
--- whether this state is shown
+-- whether `shown` is the state `this`
 abbrev pub is_shown : PortState → PortState → Bool
 is_shown this shown = state_code shown == state_code this
 

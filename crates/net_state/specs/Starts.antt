@@ -1,4 +1,4 @@
--- What switches start with, and the fabric that a network is begun with.
+-- What switches start with, and the fabric that a network starts with.
 
 use Rattle.std.specs.Prelude.{◌+◌, ℕ, [], map, length, replicate, None, false}
 use Rattle.std.specs.List.{range_with_len}
@@ -11,7 +11,7 @@ use Rattle.wire_set.specs.WireState as wire_state
 use Rattle.net_state.specs.declared.hand.Hand.TheVariants as hand
 use Rattle.net_state.specs.Fabric.{FabricOf, StationOf, life_of, no_view, station}
 
--- what a switch shows of itself as it starts: twelve dead ports, and nothing to load or to be acknowledged
+-- what a switch shows of itself when it starts: twelve dead ports, and nothing to load or to be acknowledged
 abbrev pub started_note : LifeId → ℕ → NoteOf
 started_note life epoch = record {
   life = life;
@@ -21,15 +21,15 @@ started_note life epoch = record {
   unacked = false;
 }
 
--- the next life of the switch at a place, one boot after that which it shows, and what it shows then
+-- the next life of the switch at index `place`, one boot after the one that it shows
 abbrev pub next_life_at : FabricOf → ℕ → LifeId
 next_life_at fabric place = life_of fabric.script place ((station fabric place).note.life.boot + 1)
 
+-- what the switch at index `place` shows when it starts its next life
 abbrev pub next_note_at : FabricOf → ℕ → NoteOf
 next_note_at fabric place = started_note (next_life_at fabric place) fabric.script.epoch
 
--- what stands at the place of a switch of a wiring in its first life: nothing is in hand or in use, and the
--- clock is due
+-- the station of a switch of a wiring in its first life: nothing is held or in use, and the clock event is due
 abbrev pub begun_station : Wires → ℕ → ℕ → StationOf
 begun_station wires epoch place = record {
   hand = hand.Empty;
@@ -39,7 +39,7 @@ begun_station wires epoch place = record {
   spent = false;
 }
 
--- At first all links are up, and nothing is on the wires.
+-- the fabric at the start: all links are up, and the wires are empty
 abbrev pub begun_fabric : ScriptOf → FabricOf
 begun_fabric script = record {
   script = script;

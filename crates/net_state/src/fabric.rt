@@ -1,4 +1,4 @@
-//! The fabric of a network: all of it but what its switches alone know.
+//! The fabric of a network: all of its state except what only its switches know.
 
 ghost use Rattle.std.specs.Prelude.{◌≡◌, ◌==◌, ◌+◌, ◌-◌, ◌&&◌, ◌<◌, ◌≤◌, ◌^◌, ◌++◌, length, not, true, false, Some, All, AllPairs, IfOk, option_copied, option_to_list, [], ◌∷◌};
 ghost use Rattle.std.specs.List.{list_all};
@@ -58,12 +58,14 @@ use table_build::table::Table;
 use wire_set::side::is_link;
 use wire_set::wires::WireSet;
 
-// Bytes that are no frame.
+// Bytes that do not form a frame.
 const NOISE: [u8; 64] = [0; 64];
 
-/// The fabric of a network: its script, the clock, the links and wires with the frames on them and in hand,
-/// what stands at the place of each switch, the packets under way, and how many commands are done. A switch
-/// is known by its place in the script, from 0, and so is a host; an external port is 1 to 12.
+/// The fabric of a network: its script, the clock, the links and wires with the frames on them and held by
+/// switches, the visible state of each switch (its station), the packets in flight, and the number of
+/// commands that are done.
+///
+/// Switches and hosts are known by their index in the script, from 0; external ports are 1 to 12.
 #[derive(Drop)]
 pub struct Fabric {
     plan: Plan,
@@ -86,7 +88,7 @@ impl Model for Fabric {
         IsKept (fabric_of_all f.plan f.wires f.stations f.traffic f.sent f.past) f.traffic };
 }
 
-// What a switch has in hand is given up on the wires.
+// Drops from the wires what a switch holds.
 fn give_up(wires: &mut WireSet, s: Place, hand: Hand)
     requires { HoldsFor hand (hand_of wires.old s) }
     ensures { wires.new ≡ released hand s wires.old }
@@ -96,7 +98,7 @@ fn give_up(wires: &mut WireSet, s: Place, hand: Hand)
     }
 }
 
-// A packet is under way if it has an address. Its number is above all others.
+// Adds a packet, if it has an address. Its number must be above all others.
 fn admit(
     traffic: &mut Traffic,
     packet: u32,
@@ -117,8 +119,12 @@ fn admit(
 }
 
 impl Fabric {
-    /// The fabric with which a network of this script begins: all links are up, nothing is on the wires, each
-    /// first clock is due. All the memory is taken here.
+    /// Creates the fabric that a network of this script starts with, and allocates all its memory.
+    ///
+    /// All links are up, the wires are empty, and the first clock event of each switch is due.
+    ///
+    /// # Errors
+    /// `OutOfMemory` if an allocation fails.
     pub fn begin(alloc: Global, script: &Script) -> Result<Self, OutOfMemory>
         ensures { IfOk result (λ fabric. fabric ≡ begun_fabric script.now) }
     {
@@ -135,21 +141,21 @@ impl Fabric {
 
     // ---- What is read of it ---------------------------------------------------------------------------
 
-    /// How many switches there are, 0 to 126.
+    /// Returns the number of switches, 0 to 126.
     pub fn count(&self) -> u8
         ensures { result ≡ count self.now }
     {
         self.plan.count()
     }
 
-    /// The tick of its clock, 0 to 1,000,000.
+    /// Returns the current tick, 0 to 1,000,000.
     pub fn now(&self) -> u32
         ensures { result ≡ self.now.tick }
     {
         self.stations.now()
     }
 
-    /// How many events there were, 0 to 16,000,000. Its script is one that can be.
+    /// Returns the number of events so far, 0 to 16,000,000.
     pub fn events(&self) -> u32
         ensures events { result ≡ self.now.events }
         ensures most { result ≤ 16000000 }
@@ -158,7 +164,7 @@ impl Fabric {
         self.past.events
     }
 
-    /// What stands at the place of a switch.
+    /// Returns the station of switch `s`, which must exist.
     pub fn station(&self, s: Place) -> &Station
         requires { s < count self.now }
         ensures { result.now ≡ station self.now s }
@@ -166,22 +172,22 @@ impl Fabric {
         self.stations.get(s)
     }
 
-    /// The table in use at a switch. It answers for all values.
+    /// Returns the table in use at switch `s`; `None` if there is no such switch.
     pub fn table(&self, s: Place) -> Option<&Table>
         ensures { option_copied result ≡ table_at self.now s }
     {
         self.stations.table(s)
     }
 
-    /// The host at a port, by its place and identifier: none if the port does not show a host or its link
-    /// is down.
+    /// Returns the host at a port, by its index and identifier; `None` if the port does not show a host or its
+    /// link is down.
     pub fn host(&self, s: Place, port: Port) -> Option<(u16, u64)>
         ensures { result ≡ host_at self.now s port }
     {
         self.seen().host(s, port)
     }
 
-    /// Whether the clock of a switch is due.
+    /// Reports whether the clock event of switch `s`, which must exist, is due.
     pub fn is_clock_due(&self, s: Place) -> bool
         requires { s < count self.now }
         ensures { result ≡ clock_due_at self.now s }
@@ -189,14 +195,15 @@ impl Fabric {
         self.stations.is_clock_due(s)
     }
 
-    /// How many more events there is room for, besides those that handle what is in hand.
+    /// Returns the number of events that there is still room for, not counting those that handle what switches
+    /// hold.
     pub fn room(&self) -> u32
         ensures { result ≡ room self.now }
     {
         self.plan.limits().events - self.past.events - self.stations.full()
     }
 
-    /// The event of the next command, if it is due.
+    /// Returns the event of the next command, if it is due.
     pub fn due_command(&self) -> Option<Event>
         ensures { result ≡ due_command self.now }
     {
@@ -208,7 +215,7 @@ impl Fabric {
         }
     }
 
-    /// The lowest packet under way; none exactly if none is under way.
+    /// Returns the lowest packet number in flight; `None` if and only if no packet is in flight.
     pub fn first_packet(&self) -> Option<u32>
         ensures first { result ≡ first_packet self.now.packets }
         ensures rising { AllPairs (λ one other. one.packet < other.packet) self.now.packets }
@@ -216,14 +223,15 @@ impl Fabric {
         self.traffic.first()
     }
 
-    // The switch and port behind a link of two switch ports, up or down. It answers for all values.
+    // The switch and port at the far end of a link of two switch ports, up or down. It returns a value for all
+    // arguments.
     fn far_switch(&self, s: Place, port: Port) -> Option<(Place, Port)>
         ensures { result ≡ switch_behind (side_of_port self.now s port).far }
     {
         switch_behind(self.wires.side(s, port).far)
     }
 
-    // What a hop reads.
+    // The part of the fabric that a hop reads.
     fn seen(&self) -> Seen<'_>
         ensures plan { result.plan.now ≡ self.now.script }
         ensures wires { result.wires.now ≡ self.now.wires }
@@ -236,7 +244,7 @@ impl Fabric {
         }
     }
 
-    // Whether the link of a port is up, if there is one.
+    // Reports whether the link of a port is up, if there is one.
     fn is_up(&self, s: Place, port: Port) -> bool
         ensures { result ≡ is_up self.now s port }
     {
@@ -252,7 +260,7 @@ impl Fabric {
 
     // ---- Ends -------------------------------------------------------------------------------------------
 
-    // What a switch shows of a port is that it is good, and this the other end.
+    // Reports whether a switch shows that a port is good, and has `peer` at its far end.
     fn is_good_to(&self, peer: End, s: Place, port: Port) -> bool
         ensures { result ≡ is_good_to peer (port_shown self.now s port) }
     {
@@ -270,7 +278,7 @@ impl Fabric {
         End::new(self.station(s).note().life, port.as_u8())
     }
 
-    // Each end of a link is good, and names the present life and port of the other.
+    // Reports whether each end of a link is good, and names the current life and port of the other.
     fn are_peers(&self, link: &LinkAt) -> bool
         requires { IsLink (count self.now) link.now }
         ensures { result ≡ are_peers self.now link.now }
@@ -279,7 +287,7 @@ impl Fabric {
             && self.is_good_to(self.end_at(link.a, link.a_port), link.b, link.b_port)
     }
 
-    // A link and the states at its ends agree.
+    // Reports whether a link and the states at its ends agree.
     fn link_agrees(&self, link: &LinkAt) -> bool
         requires { IsLink (count self.now) link.now }
         ensures { result ≡ link_agrees self.now link.now }
@@ -295,7 +303,7 @@ impl Fabric {
         }
     }
 
-    // The link of a host agrees with the state of its port.
+    // Reports whether the link of a host agrees with the state of its port.
     fn host_agrees(&self, host: &HostOn) -> bool
         ensures { result ≡ host_agrees self.now host.now }
     {
@@ -307,7 +315,7 @@ impl Fabric {
         }
     }
 
-    // Each link of switch ports agrees with the states at its ends.
+    // Reports whether each link of switch ports agrees with the states at its ends.
     fn do_links_agree(&self) -> bool
         ensures { result ≡ list_all (link_agrees self.now) self.now.script.wires.links }
     {
@@ -319,21 +327,21 @@ impl Fabric {
         true
     }
 
-    // Each link of a host agrees with the state of its port.
+    // Reports whether each link of a host agrees with the state of its port.
     fn do_hosts_agree(&self) -> bool
         ensures { result ≡ list_all (host_agrees self.now) self.now.script.wires.hosts }
     {
         self.plan.hosts().iter().all(|host| self.host_agrees(host))
     }
 
-    // All links and the states at their ends agree.
+    // Reports whether all links and the states at their ends agree.
     fn agrees(&self) -> bool
         ensures { result ≡ agrees self.now }
     {
         self.do_links_agree() && self.do_hosts_agree()
     }
 
-    // If no hand is full, no wire has a frame exactly if all blocks are free.
+    // Reports whether the wires are empty. If no switch holds anything, they are if and only if all blocks are free.
     fn are_wires_empty(&self) -> bool
         requires { full_hands self.now ≡ 0 }
         ensures { result ≡ are_wires_empty self.now }
@@ -341,7 +349,7 @@ impl Fabric {
         self.wires.free() == self.plan.limits().blocks
     }
 
-    // Nothing is left to do but to wait for a command or the next tick.
+    // Reports whether nothing is left to do except to wait for a command or the next tick.
     fn is_idle(&self) -> bool
         requires { full_hands self.now ≡ 0 }
         ensures { result ≡ is_idle self.now }
@@ -352,7 +360,7 @@ impl Fabric {
             && self.are_wires_empty()
     }
 
-    // All commands are done, the network is quiet, and it agrees.
+    // Reports whether all commands are done, the network is quiet, and it agrees.
     fn is_settled(&self) -> bool
         requires { full_hands self.now ≡ 0 }
         ensures { result ≡ is_settled self.now }
@@ -363,7 +371,7 @@ impl Fabric {
             && self.agrees()
     }
 
-    // The last tick has come, and nothing is left to do before another one.
+    // Reports whether the last tick has come, and nothing is left to do before another one.
     fn is_unsettled(&self) -> bool
         requires { full_hands self.now ≡ 0 }
         ensures { result ≡ is_unsettled self.now }
@@ -383,7 +391,7 @@ impl Fabric {
         Some(spent.note().life)
     }
 
-    /// The end that has come, if one has.
+    /// Returns the ending of the history, if it has ended.
     #[tactic(auto, using(crate::proofs::QueryLemmas::ending_is))]
     pub fn end(&self) -> Option<Ending>
         ensures { result ≡ ending_of self.now }
@@ -403,7 +411,7 @@ impl Fabric {
         }
     }
 
-    /// Whether no hand is full, all commands are done, the network is quiet, and it agrees.
+    /// Reports whether no switch holds anything, all commands are done, the network is quiet, and it agrees.
     pub fn settled(&self) -> bool
         ensures { result ≡ (full_hands self.now == 0 && is_settled self.now) }
     {
@@ -412,15 +420,15 @@ impl Fabric {
 
     // ---- Which events may come next --------------------------------------------------------------------
 
-    /// Whether only what is in hand may be handled: a switch is spent, or there is no room for an event and
-    /// what it leads to.
+    /// Reports whether only what switches hold can still be handled: a switch is spent, or there is no room for
+    /// an event and its consequences.
     pub fn is_barred(&self) -> bool
         ensures { result ≡ is_barred self.now }
     {
         self.stations.is_some_spent() || self.room() < 2
     }
 
-    // There were events enough since the last tick, if the script sets a pace.
+    // Reports whether enough events came since the last tick, if the script sets a pace.
     fn is_paced(&self) -> bool
         ensures { result ≡ is_paced self.now.script.pace self.now.since }
     {
@@ -430,7 +438,7 @@ impl Fabric {
         }
     }
 
-    // A tick may come.
+    // Reports whether a tick is lawful.
     fn is_tick_due(&self) -> bool
         ensures { result ≡ is_tick_due self.now }
     {
@@ -446,7 +454,7 @@ impl Fabric {
         (self.are_wires_empty() && !self.stations.is_some_load_due()) || self.is_paced()
     }
 
-    // The event is that of the next command, which is due.
+    // Reports whether the event is that of the next command, which is due.
     fn is_command(&self, event: Event) -> bool
         ensures { result ≡ is_command self.now event }
     {
@@ -456,14 +464,14 @@ impl Fabric {
         }
     }
 
-    // This is the place of a switch whose hand is empty.
+    // Reports whether this is the index of a switch that holds nothing.
     fn is_free(&self, s: Place) -> bool
         ensures { result ≡ (is_switch self.now s && not (is_full_at self.now s)) }
     {
         s.as_u8() < self.count() && !self.station(s).is_full()
     }
 
-    // A frame that has come may be taken.
+    // Reports whether a frame that has come on a port can be taken.
     fn may_take(&self, s: Place, port: Port) -> bool
         ensures { result ≡ is_ready self.now (events.Take s port) }
     {
@@ -473,7 +481,7 @@ impl Fabric {
             && self.wires.has_frame(s, port)
     }
 
-    // What the event needs besides is there.
+    // Reports whether the further conditions of the event hold.
     fn is_ready(&self, event: Event) -> bool
         ensures { result ≡ is_ready self.now event }
     {
@@ -489,7 +497,7 @@ impl Fabric {
         }
     }
 
-    /// Whether an event may come next. It answers for all values.
+    /// Reports whether `event`, whatever its fields, is lawful next.
     #[tactic(auto, unfolding(crate::specs::Lawful::is_lawful))]
     pub fn is_lawful(&self, event: &Event) -> bool
         ensures { result ≡ is_lawful self.now event.now }
@@ -500,7 +508,7 @@ impl Fabric {
 
     // ---- What comes next ---------------------------------------------------------------------------------
 
-    // The life after the present one of a switch.
+    // The life after the current one of a switch.
     fn next_life(&self, s: Place) -> Life
         requires within { s < count self.now }
         requires boot { (station self.now s).note.life.boot < 2 ^ 32 - 1 }
@@ -509,7 +517,7 @@ impl Fabric {
         Life::new(self.plan.uid(s), self.station(s).note().life.boot() + 1)
     }
 
-    // The port from which a switch takes next, after this one.
+    // The port that a switch takes from next, after `last`.
     fn next_port(&self, s: Place, last: Port) -> Option<Port>
         requires { s < count self.now }
         ensures { result ≡ next_port self.now s last }
@@ -520,7 +528,10 @@ impl Fabric {
         }
     }
 
-    /// What a switch is to do next that has nothing in hand, and took its last frame at this port, or 0.
+    /// Returns what switch `s` does next when it holds nothing; `last` is the port that it last took a frame
+    /// from, or 0.
+    ///
+    /// The switch must exist, and its boot must be below 2^32 - 1.
     pub fn work(&self, s: Place, last: Port) -> Work
         requires within { s < count self.now }
         requires boot { (station self.now s).note.life.boot < 2 ^ 32 - 1 }
@@ -549,7 +560,7 @@ impl Fabric {
         }
     }
 
-    // The next thing of the driver if nothing bars it.
+    // The next action of the driver, if nothing bars it.
     fn drive_on(&self) -> Drive
         ensures { result ≡ command_or_move (due_command self.now) self.now }
     {
@@ -565,7 +576,7 @@ impl Fabric {
         }
     }
 
-    /// What the driver is to do next.
+    /// Returns the next action of the driver.
     pub fn drive(&self) -> Drive
         ensures { result ≡ next_drive self.now }
     {
@@ -578,7 +589,7 @@ impl Fabric {
 
     // ---- Events ------------------------------------------------------------------------------------------
 
-    /// The clock of the network goes on by one.
+    /// Advances the clock of the network by one tick, which must be lawful.
     pub fn tick(&mut self)
         requires { is_lawful self.old events.Tick ≡ true }
         ensures { self.new ≡ after_tick self.old }
@@ -587,15 +598,17 @@ impl Fabric {
         self.past.tick();
     }
 
-    /// What the hardware says of the ports of a switch at this moment, by rising port. It answers for all values.
+    /// Returns what the hardware now says of the ports of switch `s`, in ascending order of port, for all
+    /// values of `s`.
     pub fn samples(&self, s: Place) -> [Sample; 12]
         ensures { result ≡ samples_of self.now s }
     {
         samples(&self.wires, s)
     }
 
-    /// A switch takes its clock in hand, with what the hardware says of its ports at this moment. Nothing is told
-    /// of it.
+    /// Lets switch `s` take its clock event, with the current `samples` of its ports. No line reports it.
+    ///
+    /// The event must be lawful.
     pub fn clock(&mut self, s: Place, samples: [Sample; 12])
         requires lawful { is_lawful self.old (events.Clock s) ≡ true }
         requires samples { samples ≡ samples_of self.old s }
@@ -605,8 +618,10 @@ impl Fabric {
         self.past.event();
     }
 
-    /// A switch takes a frame in hand from the wire into this port, and the buffer has its bytes then. Answers
-    /// what is told of it: a copy of the frame that was lost.
+    /// Lets switch `s` take a frame from the wire into `port`, and copies its bytes to `out`.
+    ///
+    /// Returns the line that reports the loss of a copy of the frame, if that was lost. The event must be
+    /// lawful.
     pub fn take(&mut self, s: Place, port: Port, out: &mut FrameBuf) -> Option<Line>
         requires { is_lawful self.old (events.Take s port) ≡ true }
         ensures taken { self.new ≡ after_take s port self.old }
@@ -620,8 +635,9 @@ impl Fabric {
         copy_line(far, taken.copied)
     }
 
-    /// The first of the three parts of handling: what a switch has in hand is given up. `put` follows for
-    /// each frame that goes out, and then `show` or `show_port`.
+    /// Drops what switch `s` holds, which must be something: the first of the three parts of handling.
+    ///
+    /// Then call `put` for each frame that goes out, and `show` or `show_port`.
     pub fn release(&mut self, s: Place)
         requires within { s < count self.old }
         requires full { is_full_at self.old s ≡ true }
@@ -632,8 +648,9 @@ impl Fabric {
         self.stations.empty(s);
     }
 
-    /// A frame of a switch goes out, if its port has a link of two switch ports. Answers what is told of it: that
-    /// it was lost.
+    /// Puts a frame of switch `s` on its wire, if its port has a link of two switch ports.
+    ///
+    /// Returns the line that reports its loss, if it was lost. The switch must exist.
     pub fn put(&mut self, s: Place, frame: &FrameOut) -> Option<Line>
         requires within { s < count self.old }
         requires frame { IsFrameOut frame.now }
@@ -647,8 +664,10 @@ impl Fabric {
         loss_line(s, port, self.wires.put(s, port, frame.bytes()))
     }
 
-    /// The last of the three parts of handling: a switch shows this now, and the event has come. If it has
-    /// joined another epoch its table goes out of use.
+    /// Records what switch `s` shows now, and counts the event: the last of the three parts of handling.
+    ///
+    /// If the switch has joined another epoch, its table goes out of use. The switch must exist, and there
+    /// must be room for the event.
     pub fn show(&mut self, s: Place, note: &Note, spent: bool)
         requires within { s < count self.old }
         requires room { self.old.events + full_hands self.old < self.old.script.limits.events }
@@ -658,8 +677,8 @@ impl Fabric {
         self.past.event();
     }
 
-    /// The same if of its ports this one alone, 1 to 12, can be shown as another than before, as after a
-    /// frame that came in by it.
+    /// Does the same as `show`, for a note that differs from the one before only in `port`, 1 to 12, as after
+    /// a frame that came in on it.
     pub fn show_port(&mut self, s: Place, port: Port, note: &Note, spent: bool)
         requires within { s < count self.old }
         requires room { self.old.events + full_hands self.old < self.old.script.limits.events }
@@ -672,7 +691,10 @@ impl Fabric {
         self.past.event();
     }
 
-    /// A switch uses a table, and shows this then. Answers what is told of it.
+    /// Puts a table into use at switch `s`, records what the switch then shows, and returns the line that
+    /// reports it.
+    ///
+    /// The event must be lawful.
     pub fn load(&mut self, s: Place, table: TableFor, note: &Note) -> Line
         requires { is_lawful self.old (events.Load s) ≡ true }
         ensures loaded { self.new ≡ after_load s table note.now self.old }
@@ -688,8 +710,9 @@ impl Fabric {
         told
     }
 
-    /// A switch is switched off and on, as the next command says: it begins its next life. Answers this life, and
-    /// what is told of it.
+    /// Restarts switch `s`, as the next command says; returns its next life, and the line that reports it.
+    ///
+    /// The event must be lawful, and the switch's boot below 2^32 - 1.
     pub fn restart(&mut self, s: Place) -> (Life, Line)
         requires lawful { is_lawful self.old (events.Restart s) ≡ true }
         requires boot { (station self.old s).note.life.boot < 2 ^ 32 - 1 }
@@ -704,7 +727,7 @@ impl Fabric {
         (life, Line::Restarted { s })
     }
 
-    // The address to which a packet goes, or why it is dropped before its first hop.
+    // The address of a packet, or the reason why it is dropped before its first hop.
     fn address_for(&self, from: &HostOn, to: &HostOn) -> Result<u16, DropCause>
         ensures address { result ≡ address_for self.now from.now to.now }
         ensures small { IfOk result (λ address. address < 2 ^ 12) }
@@ -718,7 +741,7 @@ impl Fabric {
         }
     }
 
-    // A host sends a packet to another one, as the next command says. Answers what is told of it.
+    // Lets a host send a packet to another one, as the next command says. Returns the line that reports it.
     fn send(&mut self, host: u16, to: u16) -> Line
         requires { is_lawful self.old (events.Send host to) ≡ true }
         ensures sent { self.new ≡ after_send host to self.old }
@@ -733,7 +756,9 @@ impl Fabric {
         sent_line(self.sent, host, to, address)
     }
 
-    /// The next command is done, which is due and is no restart. Answers what is told of it.
+    /// Executes the next command, and returns the line that reports it, if there is one.
+    ///
+    /// The command must be due, its event lawful, and no restart.
     pub fn command(&mut self, event: &Event) -> Option<Line>
         requires lawful { is_lawful self.old event.now ≡ true }
         requires command { is_command self.old event.now ≡ true }
@@ -774,7 +799,7 @@ impl Fabric {
         }
     }
 
-    // A packet makes one hop. Answers which.
+    // Moves a packet by one hop, and returns the hop.
     fn make_hop(&mut self, packet: u32) -> Hop
         requires { is_lawful self.old (events.Move packet) ≡ true }
         ensures moved { self.new ≡ after_move packet self.old }
@@ -790,7 +815,7 @@ impl Fabric {
         hop
     }
 
-    /// A packet makes one hop. Answers what is told of it.
+    /// Moves a packet by one hop, and returns the line that reports it. The event must be lawful.
     pub fn hop(&mut self, packet: u32) -> Line
         requires { is_lawful self.old (events.Move packet) ≡ true }
         ensures moved { self.new ≡ after_move packet self.old }

@@ -1,4 +1,4 @@
-//! What a switch has in hand.
+//! What a switch holds.
 
 use an_base::port::Sample;
 
@@ -8,16 +8,16 @@ use an_base::port::Sample;
 pub enum Hand {
     /// Nothing.
     Empty,
-    /// A clock.
+    /// A clock event.
     Clock {
         /// The tick at which it was taken, 0 to 1,000,000.
         now: u32,
-        /// What each port showed then, by rising port.
+        /// The samples of the ports at that time, in ascending order of port.
         samples: [Sample; 12],
     },
     /// A frame.
     Frame {
-        /// The port by which it came in, 1 to 12, as it is handed to the switch.
+        /// The port that it came in on, 1 to 12, as the switch is given it.
         port: u8,
     },
 }

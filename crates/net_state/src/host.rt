@@ -1,4 +1,4 @@
-//! The hosts of a script, by their places.
+//! The hosts of a script, by index.
 
 ghost use Rattle.std.specs.Prelude.{◌≡◌, slice_index_or};
 ghost use Rattle.net_state.specs.Fabric.{no_host};
@@ -14,7 +14,7 @@ const NO_HOST: HostOn = HostOn {
     port: Port(0),
 };
 
-/// The host at a place among these, or no host: identifier 0, at port 0 of switch 0.
+/// Returns the host at index `host`, or no host: identifier 0, at port 0 of switch 0.
 pub fn host_at(hosts: &[HostOn], host: u16) -> HostOn
     ensures { result ≡ slice_index_or hosts.now host no_host }
 {

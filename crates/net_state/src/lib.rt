@@ -1,15 +1,17 @@
-//! What all may see of a network in one process: the fabric. It has the clock, the links and wires with the
-//! frames on them and in hand, what stands at the place of each switch, the packets under way, and how far
-//! the commands of the script are done. The switches themselves are no part of it: what a switch made of a
-//! clock or a frame, and the table that it loads, are given to it.
+//! autonet, network: state of the simulated network outside the switches.
 //!
-//! It stands on `net_script` for the script, `wire_set` for links and frames, `host_traffic` for packets and
-//! `switch_core` for what goes between it and a switch. Its contract: a `Fabric` is a fabric, each call makes
-//! of it what the definition of the event says and answers what is told of the event, and each question is
-//! answered by its definition: which events may come next, which end has come, what a switch or the driver is to
-//! do next. No call after the beginning takes memory. As the code is written, and by no clause, none looks at all
-//! switches, frames or packets, but for the end: if a network is quiet it looks at the links, and if a switch is
-//! spent it looks for the first one.
+//! A `Fabric` has the clock, the links and wires with the frames on them and held by switches, the visible state of
+//! each switch (its station), the packets in flight, and the number of script commands that are done. It does not
+//! have the switches themselves: callers give it what a switch made of a clock event or a frame, and the table that
+//! it loads.
+//!
+//! It depends on `net_script` for the script, `wire_set` for links and frames, `host_traffic` for packets, and
+//! `switch_core` for what passes between it and a switch. Its contract: each call changes the fabric as the
+//! definition of the event says, and returns the line that reports the event; and each question is answered by its
+//! definition: which events are lawful next, how the history ends, and what a switch or the driver does next.
+//! Only creating the fabric allocates. By design, but not proved, no call visits all switches, frames or packets,
+//! except to find the ending: in a quiet network it visits the links, and if a switch is spent it searches for the
+//! first one.
 #![tactic(auto)]
 
 pub mod ending;

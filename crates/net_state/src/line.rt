@@ -1,4 +1,4 @@
-//! What is told of an event.
+//! The lines that report events.
 
 use an_base::life::{End, Life};
 use an_base::place::Place;
@@ -6,7 +6,7 @@ use an_base::port::{Port, PortState};
 use host_traffic::hop::DropCause;
 use wire_set::side::Loss;
 
-/// One thing that is told of an event.
+/// A line that reports part of an event.
 #[derive(Clone, Copy)]
 pub enum Line {
     /// A port changed its state.
@@ -20,11 +20,11 @@ pub enum Line {
         /// The other end, if it is known.
         peer: Option<End>,
     },
-    /// What came in is no frame.
+    /// The bytes that came in are no frame.
     NoFrame {
         /// The switch.
         s: Place,
-        /// The port by which it came, 1 to 12.
+        /// The port that they came in on, 1 to 12.
         port: Port,
     },
     /// A switch joined an epoch.
@@ -47,7 +47,7 @@ pub enum Line {
         epoch: u64,
         /// The root of the topology.
         root: Life,
-        /// How many members it has, 1 to 126.
+        /// The number of its members, 1 to 126.
         members: u8,
     },
     /// A frame that was put on the wire out of a port was lost.
@@ -56,7 +56,7 @@ pub enum Line {
         s: Place,
         /// Its port, 1 to 12.
         port: Port,
-        /// Why.
+        /// The reason.
         cause: Loss,
     },
     /// A switch loaded a table.
@@ -74,7 +74,7 @@ pub enum Line {
         s: Place,
         /// Its port, 1 to 12.
         port: Port,
-        /// How many frames were dropped.
+        /// The number of frames that were dropped.
         dropped: u32,
     },
     /// A link came up.
@@ -84,18 +84,18 @@ pub enum Line {
         /// Its port, 1 to 12.
         port: Port,
     },
-    /// A switch began its next life.
+    /// A switch started its next life.
     Restarted {
         /// The switch.
         s: Place,
     },
-    /// A packet is under way.
+    /// A packet was sent, and is in flight.
     Packet {
         /// The number of the packet, from 1.
         packet: u32,
-        /// The place of the host that sends it, from 0.
+        /// The index of the host that sends it, from 0.
         host: u16,
-        /// The place of the host to which it goes.
+        /// The index of the host that it goes to.
         to: u16,
         /// The address: 16 times the number of a switch, and the port of the host there.
         address: u16,
@@ -104,44 +104,44 @@ pub enum Line {
     Unsent {
         /// The number of the packet, from 1.
         packet: u32,
-        /// The place of the host that sends it, from 0.
+        /// The index of the host that sends it, from 0.
         host: u16,
-        /// The place of the host to which it was to go.
+        /// The index of the host that it was to go to.
         to: u16,
-        /// Why.
+        /// The reason.
         cause: DropCause,
     },
     /// A packet made a hop.
     Moved {
         /// The number of the packet, from 1.
         packet: u32,
-        /// The switch at which it was.
+        /// The switch that it was at.
         s: Place,
         /// The epoch of the table in use there.
         epoch: u64,
-        /// The port by which it came in, 1 to 12.
+        /// The port that it came in on, 1 to 12.
         entry: Port,
-        /// The port by which it went out, 1 to 12.
+        /// The port that it went out on, 1 to 12.
         exit: Port,
-        /// The place of the host to which it was delivered, at delivery.
+        /// The index of the host that it was delivered to, if it was.
         host: Option<u16>,
     },
     /// A packet was dropped.
     Fell {
         /// The number of the packet, from 1.
         packet: u32,
-        /// The switch at which it was.
+        /// The switch that it was at.
         s: Place,
-        /// Why.
+        /// The reason.
         cause: DropCause,
     },
 }
 
-/// One thing that is told, with the place of its event in the history, from 1.
+/// A line that reports part of an event, with the position of the event in the history, from 1.
 #[derive(Clone, Copy)]
 pub struct PlacedLine {
-    /// The place of the event.
+    /// The position of the event.
     pub event: u32,
-    /// What is told of it.
+    /// The line.
     pub line: Line,
 }

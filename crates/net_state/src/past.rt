@@ -1,20 +1,20 @@
-//! What a fabric keeps of the events that came: counts alone.
+//! What a fabric keeps of past events: only counts.
 
 ghost use Rattle.std.specs.Prelude.{◌≡◌, ◌+◌, ◌<◌, ◌^◌};
 
-/// How many commands are done, and how many events there were: since the last tick, and in all.
+/// The number of commands that are done, and the numbers of events since the last tick and in all.
 #[derive(Clone, Copy)]
 pub struct Past {
-    /// How many commands are done.
+    /// The number of commands that are done.
     pub done: usize,
-    /// How many events there were since the last tick.
+    /// The number of events since the last tick.
     pub since: u32,
-    /// How many events there were in all.
+    /// The number of events in all.
     pub events: u32,
 }
 
 impl Past {
-    /// At the beginning.
+    /// Creates the counts of a history without events.
     pub fn begin() -> Self
         ensures { result ≡ record { done = 0; since = 0; events = 0 } }
     {
@@ -25,7 +25,7 @@ impl Past {
         }
     }
 
-    /// A tick has come.
+    /// Counts a tick. There must be fewer than 2^31 events.
     pub fn tick(&mut self)
         requires { self.old.events < 2 ^ 31 }
         ensures { self.new ≡ record self.old { since = 0; events = self.old.events + 1 } }
@@ -34,7 +34,7 @@ impl Past {
         self.events += 1;
     }
 
-    /// Another event has come.
+    /// Counts an event other than a tick. There must be fewer than 2^31 events.
     pub fn event(&mut self)
         requires events { self.old.events < 2 ^ 31 }
         requires since { self.old.since < 2 ^ 31 }
@@ -44,7 +44,7 @@ impl Past {
         self.events += 1;
     }
 
-    /// A command is done, which is an event.
+    /// Counts a command, which is an event. There must be fewer than 2^31 events and commands.
     pub fn command(&mut self)
         requires events { self.old.events < 2 ^ 31 }
         requires since { self.old.since < 2 ^ 31 }

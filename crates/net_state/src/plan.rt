@@ -16,8 +16,8 @@ use std::alloc::Global;
 use std::marker::Model;
 use std::snapshot::Snapshot;
 
-/// What a run reads of its script. It is a copy: a fabric borrows nothing, since threads share
-/// the book that has it.
+/// The part of the script that a run reads. It is a copy, because threads share the journal store that has
+/// the fabric, so the fabric borrows nothing.
 #[derive(Drop)]
 pub struct Plan {
     script: Snapshot<Script>,
@@ -43,7 +43,10 @@ impl Model for Plan {
 }
 
 impl Plan {
-    /// What a run reads of this script.
+    /// Copies the part of `script` that a run reads.
+    ///
+    /// # Errors
+    /// `OutOfMemory` if an allocation fails.
     pub fn of(alloc: Global, script: &Script) -> Result<Self, OutOfMemory>
         ensures { IfOk result (λ plan. plan ≡ script.now) }
     {
@@ -60,7 +63,7 @@ impl Plan {
         })
     }
 
-    /// How many switches there are, 0 to 126.
+    /// Returns the number of switches, 0 to 126.
     pub fn count(&self) -> u8
         ensures count { result ≡ length self.now.wires.switches }
         ensures kept { IsScript self.now }
@@ -68,7 +71,7 @@ impl Plan {
         self.switches.len() as u8
     }
 
-    /// The identifier of a switch.
+    /// Returns the identifier of switch `s`, which must exist.
     pub fn uid(&self, s: Place) -> u64
         requires { s < length self.now.wires.switches }
         ensures { result ≡ uid_of self.now.wires.switches s }
@@ -76,7 +79,7 @@ impl Plan {
         self.switches[usize::from(s)].uid
     }
 
-    /// The links of switch ports.
+    /// Returns the links of switch ports.
     pub fn links(&self) -> &[LinkAt]
         ensures links { result.now ≡ self.now.wires.links }
         ensures kept { IsScript self.now }
@@ -84,7 +87,7 @@ impl Plan {
         &self.links
     }
 
-    /// The hosts by place.
+    /// Returns the hosts, by index.
     pub fn hosts(&self) -> &[HostOn]
         ensures hosts { result.now ≡ self.now.wires.hosts }
         ensures kept { IsScript self.now }
@@ -92,14 +95,14 @@ impl Plan {
         &self.hosts
     }
 
-    /// The host at a place. It answers for all values.
+    /// Returns the host at index `host`, or no host if there is none.
     pub fn host(&self, host: u16) -> HostOn
         ensures { result ≡ slice_index_or self.now.wires.hosts host no_host }
     {
         host_at(&self.hosts, host)
     }
 
-    /// The commands, in the order of their times.
+    /// Returns the commands, in the order of their times.
     pub fn commands(&self) -> &[Command]
         ensures commands { result.now ≡ self.now.commands }
         ensures kept { IsScript self.now }
@@ -107,21 +110,21 @@ impl Plan {
         &self.commands
     }
 
-    /// The epoch at power-on.
+    /// Returns the epoch at power-on.
     pub fn epoch(&self) -> u64
         ensures { result ≡ self.now.epoch }
     {
         self.epoch
     }
 
-    /// The number of events after which a tick may come, if there is one.
+    /// Returns the number of events after which a tick can come, if the script sets one.
     pub fn pace(&self) -> Option<u32>
         ensures { result ≡ self.now.pace }
     {
         self.pace
     }
 
-    /// The limits of a run.
+    /// Returns the limits of a run.
     pub fn limits(&self) -> Limits
         ensures limits { result ≡ self.now.limits }
         ensures kept { IsScript self.now }

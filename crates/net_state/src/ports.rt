@@ -1,4 +1,4 @@
-//! How a fabric reads ports: what their hardware says, what their switches show, and which have frames.
+//! How a fabric reads ports: the hardware's samples, the states that switches show, and the ports that have frames.
 
 ghost use Rattle.std.specs.Prelude.{◌≡◌, ◌&&◌, ◌≤◌, nat_lt, map, find};
 ghost use Rattle.port_monitor.specs.Histories.{externals};
@@ -13,42 +13,42 @@ use net_graph::wiring::Far;
 use wire_set::side::Side;
 use wire_set::wires::WireSet;
 
-/// Whether a port shows that nothing answers behind it.
+/// Reports whether the state is that of a port behind which nothing answers.
 pub fn is_dead(state: PortState) -> bool
     ensures { result ≡ is_dead state }
 {
     matches!(state, PortState::Dead)
 }
 
-/// Whether it shows a host.
+/// Reports whether the state is that of a port with a host.
 pub fn is_host(state: PortState) -> bool
     ensures { result ≡ is_host state }
 {
     matches!(state, PortState::Host)
 }
 
-/// Whether it shows the switch itself.
+/// Reports whether the state is that of a port cabled to its own switch.
 pub fn is_loop(state: PortState) -> bool
     ensures { result ≡ is_loop state }
 {
     matches!(state, PortState::Loop)
 }
 
-/// Whether it shows another switch, which knows of it.
+/// Reports whether the state is that of a good port: another switch is there, and knows of it.
 pub fn is_good(state: PortState) -> bool
     ensures { result ≡ is_good state }
 {
     matches!(state, PortState::Good)
 }
 
-/// Whether a port is an external one.
+/// Reports whether the port is an external one.
 pub fn is_external(port: Port) -> bool
     ensures { result ≡ is_external port }
 {
     1 <= port.as_u8() && port.as_u8() <= LAST_PORT
 }
 
-/// The switch and port behind a link of two switch ports.
+/// Returns the switch and port at the far end of a link of two switch ports.
 pub fn switch_behind(far: Option<Far>) -> Option<(Place, Port)>
     ensures { result ≡ switch_behind far }
 {
@@ -58,7 +58,7 @@ pub fn switch_behind(far: Option<Far>) -> Option<(Place, Port)>
     }
 }
 
-/// What the hardware says of a port.
+/// Returns what the hardware says of a port.
 pub fn sample_of(side: Side) -> Sample
     ensures { result ≡ sample_of side }
 {
@@ -72,7 +72,7 @@ pub fn sample_of(side: Side) -> Sample
     }
 }
 
-/// What the hardware says of the ports of a switch, by rising port.
+/// Returns what the hardware says of the ports of switch `s`, in ascending order of port.
 pub fn samples(wires: &WireSet, s: Place) -> [Sample; 12]
     ensures { result ≡ map (λ port. sample_of (side_at wires.now (place s port))) externals }
 {
@@ -83,14 +83,14 @@ pub fn samples(wires: &WireSet, s: Place) -> [Sample; 12]
     samples
 }
 
-// Whether a port is above this one and has a frame.
+// Reports whether `port` is above `last` and has a frame.
 fn is_next(wires: &WireSet, s: Place, last: Port, port: Port) -> bool
     ensures { result ≡ (nat_lt last port && has_frame_on wires.now (place s port)) }
 {
     last < port && wires.has_frame(s, port)
 }
 
-/// The lowest port above this one that has a frame.
+/// Returns the lowest port above `last` that has a frame.
 pub fn port_above(wires: &WireSet, s: Place, last: Port) -> Option<Port>
     ensures { result ≡ find (λ port. nat_lt last port && has_frame_on wires.now (place s port)) externals }
 {

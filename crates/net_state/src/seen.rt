@@ -1,4 +1,4 @@
-//! How a fabric lends its parts to the hop of a packet, which asks by `HopView`.
+//! The parts of a fabric that a packet's hop reads, as a `HopView`.
 
 use crate::plan::Plan;
 use crate::ports::{is_host, switch_behind};
@@ -10,14 +10,14 @@ use net_graph::wiring::Far;
 use table_build::table::Table;
 use wire_set::wires::WireSet;
 
-/// What a hop reads of a fabric: the script, the links, and the places of the switches.
+/// The parts of a fabric that a packet's hop reads: the script, the links, and the stations of the switches.
 #[derive(Clone, Copy)]
 pub struct Seen<'a> {
-    /// The script, as far as a hop reads it.
+    /// The part of the script that a run reads.
     pub plan: &'a Plan,
     /// The links.
     pub wires: &'a WireSet,
-    /// The places of the switches.
+    /// The stations of the switches.
     pub stations: &'a Stations,
 }
 

@@ -1,4 +1,4 @@
-//! What all may see at the place of a switch.
+//! The visible state of a switch.
 
 ghost use Rattle.std.specs.Prelude.{◌≡◌, ◌==◌, ◌≤◌, None, Some, false, not, option_copied};
 ghost use Rattle.std.specs.Option.{option_map, option_map_or};
@@ -14,8 +14,8 @@ use std::marker::Model;
 use switch_core::switch::TableFor;
 use table_build::table::Table;
 
-/// What all may see at the place of a switch: what it has in hand, the tick at which its next clock is due,
-/// the table in use, what the switch shows of itself, and whether its epochs are spent.
+/// The visible state of a switch: what it holds, the tick at which its next clock event is due, the table
+/// in use, what the switch shows of itself, and whether its epochs are spent.
 #[derive(Drop)]
 pub struct Station {
     hand: Hand,
@@ -39,7 +39,7 @@ impl Model for Station {
     } };
 }
 
-/// What a switch shows of itself as it starts, in this life and epoch.
+/// Returns what a switch shows of itself when it starts in this life and epoch.
 pub fn started_note(life: Life, epoch: u64) -> Note
     ensures { result ≡ started_note life epoch }
 {
@@ -52,7 +52,7 @@ pub fn started_note(life: Life, epoch: u64) -> Note
     }
 }
 
-/// Writes what a switch shows of itself over what is there, in its place.
+/// Overwrites `to` with `note`, in its memory.
 pub fn write_note(to: &mut Note, note: &Note)
     ensures { to.new ≡ note.now }
 {
@@ -63,7 +63,7 @@ pub fn write_note(to: &mut Note, note: &Note)
     to.unacked = note.unacked;
 }
 
-// The same if of its ports this one alone can be shown as another than before.
+// Does the same, where only `port` can be shown differently than before.
 fn write_port(to: &mut Note, port: Port, note: &Note)
     requires least { 1 ≤ port }
     requires most { port ≤ 12 }
@@ -80,7 +80,7 @@ fn write_port(to: &mut Note, port: Port, note: &Note)
 }
 
 impl Station {
-    // At the beginning: its clock is due, and nothing is in hand or in use.
+    // The station at the start: its clock event is due, nothing is held, and no table is in use.
     pub(crate) fn begin(note: Note) -> Self
         ensures { result ≡ record {
           hand = in_hand.Empty;
@@ -99,14 +99,14 @@ impl Station {
         }
     }
 
-    /// What the switch has in hand.
+    /// Returns what the switch holds.
     pub fn hand(&self) -> Hand
         ensures { result ≡ self.now.hand }
     {
         self.hand
     }
 
-    /// Whether it has something in hand.
+    /// Reports whether the switch holds something.
     pub fn is_full(&self) -> bool
         ensures { result ≡ not (is_empty self.now.hand) }
     {
@@ -117,7 +117,7 @@ impl Station {
         }
     }
 
-    /// The tick at which its next clock is due.
+    /// Returns the tick at which the next clock event of the switch is due.
     pub fn clock(&self) -> u32
         ensures { result ≡ self.now.clock }
     {
@@ -134,7 +134,7 @@ impl Station {
         }
     }
 
-    /// The table in use.
+    /// Returns the table in use.
     pub fn table(&self) -> Option<&Table>
         ensures { option_copied result ≡ option_map (λ used. used.table) self.now.table }
     {
@@ -144,35 +144,35 @@ impl Station {
         }
     }
 
-    /// What the switch shows of itself.
+    /// Returns what the switch shows of itself.
     pub fn note(&self) -> &Note
         ensures { result.now ≡ self.now.note }
     {
         &self.note
     }
 
-    /// Whether its epochs are spent.
+    /// Reports whether the epochs of the switch are spent.
     pub fn is_spent(&self) -> bool
         ensures { result ≡ self.now.spent }
     {
         self.spent
     }
 
-    // It takes this in hand.
+    // Lets the switch take this.
     pub(crate) fn take(&mut self, hand: Hand)
         ensures { self.new ≡ record self.old { hand = hand } }
     {
         self.hand = hand;
     }
 
-    // Its next clock is due at this tick.
+    // Sets the tick at which the next clock event is due.
     pub(crate) fn set_clock(&mut self, clock: u32)
         ensures { self.new ≡ record self.old { clock = clock } }
     {
         self.clock = clock;
     }
 
-    // The switch joins this epoch, which its note then says: if it is another one the table goes out of use.
+    // Prepares the join of this epoch, which the note then shows: if it is another one, the table goes out of use.
     fn join(&mut self, epoch: u64)
         ensures { self.new ≡ record self.old {
           table = kept_table (epoch == self.old.note.epoch) self.old.table;
@@ -183,7 +183,7 @@ impl Station {
         }
     }
 
-    // The switch shows this now. If it has joined another epoch the table goes out of use.
+    // Records what the switch shows now. If it has joined another epoch, the table goes out of use.
     pub(crate) fn show(&mut self, note: &Note, spent: bool)
         ensures { self.new ≡ record self.old {
           table = kept_table (note.now.epoch == self.old.note.epoch) self.old.table;
@@ -196,7 +196,7 @@ impl Station {
         self.spent = spent;
     }
 
-    // The same if of its ports this one alone, 1 to 12, can be shown as another than before.
+    // Does the same, where only `port`, 1 to 12, can be shown differently than before.
     pub(crate) fn show_port(&mut self, port: Port, note: &Note, spent: bool)
         requires least { 1 ≤ port }
         requires most { port ≤ 12 }
@@ -212,7 +212,7 @@ impl Station {
         self.spent = spent;
     }
 
-    // The switch uses this table, and shows this.
+    // Puts a table into use, and records what the switch shows.
     pub(crate) fn load(&mut self, table: TableFor, note: &Note)
         ensures { self.new ≡ record self.old { table = Some table; note = note.now } }
     {
@@ -220,7 +220,7 @@ impl Station {
         write_note(&mut self.note, note);
     }
 
-    // The switch begins its next life at this tick.
+    // Starts the next life of the switch at this tick.
     pub(crate) fn restart(&mut self, tick: u32, note: Note)
         ensures { self.new ≡ record self.old { clock = tick; table = None; note = note; spent = false } }
     {

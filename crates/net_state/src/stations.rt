@@ -1,4 +1,4 @@
-//! The places of all switches, with a tally that each change here brings up to date, so that nobody counts them.
+//! The stations of all switches, with a tally that each change updates, so that no call has to count them.
 
 ghost use Rattle.std.specs.Prelude.{◌≡◌, ◌+◌, ◌-◌, ◌<◌, ◌≤◌, ◌^◌, nat_le, nat_lt, true, false, length, map, slice_index_or, Some, IfOk, option_copied};
 ghost use Rattle.std.specs.List.{list_any, range_with_len};
@@ -21,11 +21,11 @@ use std::marker::Model;
 use switch_core::switch::TableFor;
 use table_build::table::Table;
 
-// The greatest tick of a network.
+// The highest tick of a network.
 const MOST_TICK: u32 = 1_000_000;
 
-// How many stations there are of each kind: with a full hand, a clock that is due, a load that is due, a body
-// that is not acknowledged, and spent.
+// The numbers of stations of each kind: those that hold something, have a clock event due, have a load due, have a
+// body that is not acknowledged, and are spent.
 #[derive(Clone, Copy)]
 struct Tally {
     full: u32,
@@ -35,8 +35,10 @@ struct Tally {
     spent: u32,
 }
 
-/// The clock of the network, and the places of its switches. How many of these have a full hand, a clock or a
-/// load due, a body that is not acknowledged, or are spent, is kept beside, so that it is known at once.
+/// The clock of the network, and the stations of its switches.
+///
+/// A tally is kept of the stations that hold something, have a clock event or a load due, have a body that
+/// is not acknowledged, or are spent, so each of these is known at once.
 #[derive(Drop)]
 pub struct Stations {
     tick: u32,
@@ -70,7 +72,7 @@ fn recounted(count: u32, before: bool, after: bool) -> u32
     if after { others + 1 } else { others }
 }
 
-// What is shown of a port, among what is shown of all.
+// What is shown of `port`, in a list of what is shown of all ports.
 fn view_in(views: &[PortView], port: Port) -> PortView
     ensures { result ≡ slice_index_or views.now (port - 1) no_view }
 {
@@ -96,7 +98,7 @@ impl Tally {
     }
 }
 
-// What every switch shows at the beginning.
+// The station of every switch at the start.
 fn begun(alloc: Global, wiring: &Wiring, epoch: u64) -> Result<Vec<Station>, OutOfMemory>
     ensures { IfOk result (λ stations. stations.items
         ≡ map (begun_station wiring.now epoch) (range_with_len 0 (length wiring.now.switches))) }
@@ -110,8 +112,11 @@ fn begun(alloc: Global, wiring: &Wiring, epoch: u64) -> Result<Vec<Station>, Out
 }
 
 impl Stations {
-    /// The places of the switches of a wiring, at tick 0: each shows a switch as it starts, and each clock is
-    /// due.
+    /// Creates the stations of the switches of a wiring, at tick 0: each shows a switch as it starts, and each
+    /// clock event is due.
+    ///
+    /// # Errors
+    /// `OutOfMemory` if an allocation fails.
     pub fn begin(alloc: Global, wiring: &Wiring, epoch: u64) -> Result<Self, OutOfMemory>
         ensures { IfOk result (λ stations. stations ≡ record {
           tick = 0;
@@ -132,21 +137,21 @@ impl Stations {
         })
     }
 
-    /// The tick of the network.
+    /// Returns the current tick of the network.
     pub fn now(&self) -> u32
         ensures { result ≡ self.now.tick }
     {
         self.tick
     }
 
-    /// The places of the switches.
+    /// Returns the stations of the switches, by index.
     pub fn as_slice(&self) -> &[Station]
         ensures { result.now ≡ self.now.items }
     {
         &self.items
     }
 
-    /// The place of a switch.
+    /// Returns the station of switch `s`, which must exist.
     pub fn get(&self, s: Place) -> &Station
         requires { s < length self.now.items }
         ensures { result.now ≡ station_in self.now s }
@@ -154,7 +159,7 @@ impl Stations {
         &self.items[usize::from(s)]
     }
 
-    /// The table in use at a switch. It answers for all values.
+    /// Returns the table in use at switch `s`; `None` if there is no such switch.
     pub fn table(&self, s: Place) -> Option<&Table>
         ensures { option_copied result ≡ option_map (λ used. used.table) (station_in self.now s).table }
     {
@@ -164,7 +169,7 @@ impl Stations {
         }
     }
 
-    /// The epoch of the table in use at a switch, 0 if there is none. It answers for all values.
+    /// Returns the epoch of the table in use at switch `s`, 0 if there is no table or no such switch.
     pub fn epoch_in_use(&self, s: Place) -> u64
         ensures { result ≡ option_map_or (λ used. used.epoch) (station_in self.now s).table 0 }
     {
@@ -174,7 +179,7 @@ impl Stations {
         }
     }
 
-    /// What a switch shows of a port. It answers for all values: what is no port shows nothing.
+    /// Returns what switch `s` shows of `port`; nothing if there is no such switch or the port is above 12.
     pub fn port(&self, s: Place, port: Port) -> PortView
         ensures { result ≡ slice_index_or (station_in self.now s).note.ports (port - 1) no_view }
     {
@@ -184,7 +189,7 @@ impl Stations {
         }
     }
 
-    /// Whether the clock of a switch is due.
+    /// Reports whether the clock event of switch `s`, which must exist, is due.
     pub fn is_clock_due(&self, s: Place) -> bool
         requires { s < length self.now.items }
         ensures { result ≡ nat_le (station_in self.now s).clock self.now.tick }
@@ -192,49 +197,51 @@ impl Stations {
         self.get(s).clock() <= self.tick
     }
 
-    /// How many hands are full.
+    /// Returns the number of switches that hold something.
     pub fn full(&self) -> u32
         ensures { result ≡ full_among self.now.items }
     {
         self.tally.full
     }
 
-    /// Whether some hand is full.
+    /// Reports whether some switch holds something.
     pub fn is_some_full(&self) -> bool
         ensures { result ≡ nat_lt 0 (full_among self.now.items) }
     {
         self.tally.full > 0
     }
 
-    /// Whether some clock is due.
+    /// Reports whether some clock event is due.
     pub fn is_some_clock_due(&self) -> bool
         ensures { result ≡ list_any (is_due_at self.now.tick) self.now.items }
     {
         self.tally.clocks > 0
     }
 
-    /// Whether some load is due.
+    /// Reports whether some load is due.
     pub fn is_some_load_due(&self) -> bool
         ensures { result ≡ list_any (λ at. at.note.load_due) self.now.items }
     {
         self.tally.loads > 0
     }
 
-    /// Whether some body is not acknowledged.
+    /// Reports whether some body is not acknowledged.
     pub fn is_some_unacked(&self) -> bool
         ensures { result ≡ list_any (λ at. at.note.unacked) self.now.items }
     {
         self.tally.unacked > 0
     }
 
-    /// Whether some switch is spent.
+    /// Reports whether some switch is spent.
     pub fn is_some_spent(&self) -> bool
         ensures { result ≡ list_any (λ at. at.spent) self.now.items }
     {
         self.tally.spent > 0
     }
 
-    /// The next tick, at which every clock is due. None was due before.
+    /// Advances the clock by one tick, at which every clock event is due.
+    ///
+    /// No clock event must be due before, and the tick must be below 1,000,000.
     pub fn tick(&mut self)
         requires none_due { list_any (is_due_at self.old.tick) self.old.items ≡ false }
         requires room { self.old.tick < MOST_TICK }
@@ -244,7 +251,9 @@ impl Stations {
         self.tally.clocks = self.items.len() as u32;
     }
 
-    /// A switch whose clock is due and whose hand is empty takes the clock in hand, with these samples.
+    /// Lets switch `s` take its clock event, with these samples.
+    ///
+    /// The switch must exist and hold nothing, and its clock event must be due.
     pub fn take_clock(&mut self, s: Place, samples: [Sample; 12])
         requires within { s < length self.old.items }
         requires empty { is_empty (station_in self.old s).hand ≡ true }
@@ -264,7 +273,7 @@ impl Stations {
         self.tally.clocks -= 1;
     }
 
-    /// A switch whose hand is empty takes a frame in hand.
+    /// Lets switch `s` take a frame from `port`. The switch must exist and hold nothing.
     pub fn take_frame(&mut self, s: Place, port: Port)
         requires within { s < length self.old.items }
         requires empty { is_empty (station_in self.old s).hand ≡ true }
@@ -275,7 +284,7 @@ impl Stations {
         self.tally.full += 1;
     }
 
-    /// A switch whose hand is full has nothing in hand then.
+    /// Removes what switch `s` holds. The switch must exist and hold something.
     pub fn empty(&mut self, s: Place)
         requires within { s < length self.old.items }
         requires full { is_empty (station_in self.old s).hand ≡ false }
@@ -286,7 +295,9 @@ impl Stations {
         self.tally.full -= 1;
     }
 
-    /// A switch shows this now. If it has joined another epoch, its table goes out of use.
+    /// Records what switch `s`, which must exist, shows now.
+    ///
+    /// If it has joined another epoch, its table goes out of use.
     pub fn show(&mut self, s: Place, note: &Note, spent: bool)
         requires within { s < length self.old.items }
         ensures { self.new ≡ with_station_in s (showing note.now spent (station_in self.old s)) self.old }
@@ -296,7 +307,7 @@ impl Stations {
         station.show(note, spent);
     }
 
-    /// The same if of its ports this one alone, 1 to 12, can be shown as another than before.
+    /// Does the same as `show`, for a note that differs from the one before only in `port`, 1 to 12.
     pub fn show_port(&mut self, s: Place, port: Port, note: &Note, spent: bool)
         requires within { s < length self.old.items }
         requires least { 1 ≤ port }
@@ -309,7 +320,7 @@ impl Stations {
         station.show_port(port, note, spent);
     }
 
-    /// A switch uses this table and shows this.
+    /// Puts a table into use at switch `s`, which must exist, and records what the switch shows.
     pub fn load(&mut self, s: Place, table: TableFor, note: &Note)
         requires within { s < length self.old.items }
         ensures { self.new ≡ with_station_in s
@@ -320,7 +331,8 @@ impl Stations {
         station.load(table, note);
     }
 
-    /// A switch begins its next life, in which it shows this: its clock is due, and it uses no table.
+    /// Starts the next life of switch `s`, which must exist, and records what it shows: its clock event is due,
+    /// and it uses no table.
     pub fn restart(&mut self, s: Place, note: Note)
         requires within { s < length self.old.items }
         ensures { self.new ≡ with_station_in s

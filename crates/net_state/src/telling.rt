@@ -1,4 +1,4 @@
-//! What is told of frames that are lost, and of packets.
+//! The lines that report lost frames, and packets.
 
 ghost use Rattle.std.specs.Prelude.{◌≡◌, option_to_list};
 ghost use Rattle.net_state.specs.Lines.{copy_line, hop_line, loss_line, sent_line};
@@ -9,7 +9,7 @@ use an_base::port::Port;
 use host_traffic::hop::{DropCause, Hop};
 use wire_set::side::Put;
 
-/// What is told of a frame that was put on the wire out of a port.
+/// Returns the line that reports the loss of a frame put on the wire out of a port, if it was lost.
 pub fn loss_line(s: Place, port: Port, put: Put) -> Option<Line>
     ensures { option_to_list result ≡ loss_line s port put }
 {
@@ -19,7 +19,9 @@ pub fn loss_line(s: Place, port: Port, put: Put) -> Option<Line>
     }
 }
 
-/// What is told of a copy of a frame that was taken, which names the end that sent it.
+/// Returns the line that reports the loss of a copy of a frame that was taken, if it was lost.
+///
+/// The line names the end that sent the frame.
 pub fn copy_line(far: Option<(Place, Port)>, copied: Option<Put>) -> Option<Line>
     ensures { option_to_list result ≡ copy_line far copied }
 {
@@ -27,7 +29,7 @@ pub fn copy_line(far: Option<(Place, Port)>, copied: Option<Put>) -> Option<Line
     loss_line(s, port, copied?)
 }
 
-/// What is told of a packet that a host sent: it has an address, or none.
+/// Returns the line that reports a packet that a host sent, with its address or the reason why it has none.
 pub fn sent_line(packet: u32, host: u16, to: u16, address: Result<u16, DropCause>) -> Line
     ensures { result ≡ sent_line packet host to address }
 {
@@ -47,8 +49,8 @@ pub fn sent_line(packet: u32, host: u16, to: u16, address: Result<u16, DropCause
     }
 }
 
-/// What is told of a hop of a packet at a switch, if a table of this epoch is in use and it came in by a
-/// port.
+/// Returns the line that reports a hop of a packet at switch `s`, where it came in on port `entry` and a
+/// table of `epoch` is in use.
 pub fn hop_line(packet: u32, s: Place, epoch: u64, entry: Port, hop: Hop) -> Line
     ensures { result ≡ hop_line packet s epoch entry hop }
 {

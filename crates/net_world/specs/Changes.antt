@@ -5,15 +5,15 @@ use Rattle.an_base.specs.declared.event.Event.{Event}
 use Rattle.net_script.specs.Scripts.{ScriptOf}
 use Rattle.net_world.specs.Histories.{IsFirstFault}
 
--- an event is put in after the first so many
+-- the history with an event added after the first `count`
 abbrev pub with_added : ℕ → Event → List Event → List Event
 with_added count event history = take count history ++ event ∷ drop count history
 
--- the one after the first so many is left out
+-- the history without the event after the first `count`
 abbrev pub with_left_out : ℕ → List Event → List Event
 with_left_out count history = take count history ++ drop (suc count) history
 
--- The first so many events are lawful, and the one after them is not.
+-- the first `count` events are lawful, and the one after them is not
 pub record IsRefusedAfter (count : ℕ) (script : ScriptOf) (history : List Event) : Type 0 where
   pub event : Event
   pub after : List Event

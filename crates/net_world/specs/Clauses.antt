@@ -1,4 +1,4 @@
--- What is claimed at each moment of a history, and of a settled one.
+-- What is claimed at each point in time of a history, and of a settled one.
 
 use Rattle.std.specs.Prelude.{◌≡◌, ◌≢◌, ◌-◌, ◌*◌, ◌<◌, ◌≤◌, ℕ, suc, List, ◌∷◌, ◌++◌, length, Some, Bool, false, true, Any, Contains, IsTrue}
 use Rattle.std.specs.Ordering.{is_le}
@@ -23,7 +23,7 @@ use Rattle.net_world.specs.World.{WorldOf, world_after}
 use Rattle.net_world.specs.Histories.{end_of, in_use, switch_after}
 use Rattle.net_world.specs.Traces.{AreTraced}
 
--- A life has finished an epoch with a topology, now or at an earlier moment.
+-- life `life` has finished `epoch` with topology `topo`, now or at an earlier point in time
 pub record FinishedAt (script : ScriptOf) (history : List Event) (life : LifeId) (epoch : ℕ)
     (topo : TopoOf) : Type 0 where
   pub before : List Event
@@ -35,14 +35,14 @@ pub record FinishedAt (script : ScriptOf) (history : List Event) (life : LifeId)
   pub epoch_is : (switch_after script before place).epoch ≡ epoch
   pub finished : finish_of (switch_after script before place) ≡ Some topo
 
--- Lives that finished one epoch under one root hold one topology and numbering.
+-- lives that finished the same epoch under the same root hold the same topology and numbering
 abbrev pub AreOnePicture : ScriptOf → List Event → Type 0
 AreOnePicture script history = (one other : LifeId) (epoch : ℕ) (topo same : TopoOf)
     → FinishedAt script history one epoch topo → FinishedAt script history other epoch same
     → root_of topo ≡ root_of same → topo ≡ same
 
--- A topology is a tree over its links, of which the life is a member, and its numbers are those of its
--- numbering: as many as members, all different and of 1 to 126.
+-- `topo` is a tree over its links, `life` is a member of it, and its numbers are as its numbering gives them:
+-- different, and from 1 to 126
 pub record IsTopology (life : LifeId) (topo : TopoOf) : Type 0 where
   pub graph : IsGraph topo.entries
   pub tree : IsTree topo.entries
@@ -50,39 +50,38 @@ pub record IsTopology (life : LifeId) (topo : TopoOf) : Type 0 where
   pub numbers : topo.numbers ≡ numbering topo.entries
   pub different : AreNumbers topo.numbers
 
--- whatever a life has finished an epoch with is a topology
+-- everything that a life has finished an epoch with is a topology
 abbrev pub AreTopologies : ScriptOf → List Event → Type 0
 AreTopologies script history = (life : LifeId) (epoch : ℕ) (topo : TopoOf)
     → FinishedAt script history life epoch topo → IsTopology life topo
 
--- The rows of a topology join all members, along the legal routes that the script's tables have, and no
--- channel leads back to itself. Members are their places among the entries, and what starts at one comes in
--- by entry 0.
+-- the rows of a topology join all members, along the legal routes that the script's tables have, and no channel leads
+-- back to itself; members are given by their indices among the entries, and what starts at one comes in on entry 0
 pub record AreRouted (entries : List EntryOf) (any : Bool) : Type 0 where
-  -- whoever follows the rows to a member and is not there finds an exit to it
+  -- whoever follows the rows towards a member and is not there yet finds an exit towards it
   pub goes_on : (to from at entry : ℕ) (ports : List ℕ) → from < length entries → to < length entries
       → Follows entries any to from 0 ports at entry → at ≢ to
       → (port : ℕ) × Begins entries any (may_go_up entries at entry) at to port
-  -- and has come over at most so many links
+  -- whoever follows the rows has crossed at most 2 (n - 1) links, where n is the number of members
   pub ends : (to from at entry : ℕ) (ports : List ℕ) → from < length entries
       → Follows entries any to from 0 ports at entry → length ports ≤ 2 * (length entries - 1)
-  -- along a legal route
+  -- whoever follows the rows takes a legal route
   pub legal : (to from at entry : ℕ) (ports : List ℕ) → Follows entries any to from 0 ports at entry
       → LegalRoute entries from ports at
-  -- which is a shortest one, unless the tables have all legal routes
+  -- unless the tables have all legal routes, whoever follows the rows to a member takes a shortest one
   pub least : (to from entry links : ℕ) (ports : List ℕ) → any ≡ false
       → Follows entries any to from 0 ports to entry → IsShortest entries true from to links
       → length ports ≡ links
   -- no channel leads back to itself, by one step or more
   pub no_cycle : (steps : ℕ) (channel : ℕ × ℕ) → ChannelWalk entries any (suc steps) channel channel → ⊥
 
--- the members of whatever a life has finished an epoch with are joined so
+-- the rows of every topology that a life has finished an epoch with join its members
 abbrev pub AreAllRouted : ScriptOf → List Event → Type 0
 AreAllRouted script history = (life : LifeId) (epoch : ℕ) (topo : TopoOf)
     → FinishedAt script history life epoch topo → AreRouted topo.entries script.any_routes
 
--- A table in use is the routing table, of the present life, of what that life finished with in the table's
--- epoch.
+-- a table in use is the routing table, for the current life, of the topology that this life finished the table's epoch
+-- with
 abbrev pub AreOwnTables : ScriptOf → List Event → Type 0
 AreOwnTables script history = (place : ℕ) (table : TableFor) → place < length script.wires.switches
     → in_use script history place ≡ Some table
@@ -90,21 +89,21 @@ AreOwnTables script history = (place : ℕ) (table : TableFor) → place < lengt
     × IsTableOf topo.entries topo.numbers script.any_routes (switch_after script history place).life
     table.table
 
--- A load of a switch that has finished with a topology, at a moment of a history. It need not be lawful
--- there.
+-- at a point in time of the history, the switch at index `place`, which has finished with `topo`, loads its table; the
+-- load need not be lawful there
 pub record IsLoadOf (script : ScriptOf) (history before : List Event) (place : ℕ) (later : List Event)
     (topo : TopoOf) : Type 0 where
   pub parts : history ≡ before ++ Load place ∷ later
   pub finished : finish_of (switch_after script before place) ≡ Some topo
 
--- Once a table of an epoch is loaded, no member of its topology uses one of a lower epoch, then or later.
+-- once a table of an epoch is loaded, no member of its topology uses a table of a lower epoch, then or later
 abbrev pub NoneIsOlder : ScriptOf → List Event → Type 0
 NoneIsOlder script history = (before later : List Event) (place member : ℕ) (topo : TopoOf) (table : TableFor)
     → IsLoadOf script history before place later topo → member < length script.wires.switches
     → Any (λ entry. entry.life ≡ (switch_after script history member).life) topo.entries
     → in_use script history member ≡ Some table → (switch_after script before place).epoch ≤ table.epoch
 
--- what holds after a history
+-- what is claimed after a history
 pub record HoldsAt (script : ScriptOf) (history : List Event) : Type 0 where
   pub picture : AreOnePicture script history
   pub topologies : AreTopologies script history
@@ -113,12 +112,13 @@ pub record HoldsAt (script : ScriptOf) (history : List Event) : Type 0 where
   pub older : NoneIsOlder script history
   pub traces : AreTraced script history
 
--- and at each moment of it: after each of its beginnings
+-- what is claimed holds at each point in time of a history: after each of its prefixes
 abbrev pub HoldsAtEachMoment : ScriptOf → List Event → Type 0
 HoldsAtEachMoment script history =
     (before later : List Event) → history ≡ before ++ later → HoldsAt script before
 
--- Two places are linked: each has a good port whose other end is that port of the present life of the other.
+-- two switches are linked: each has a good port, and each of these ports is the far end of the other, in the current
+-- life of its switch
 pub record AreLinked (world : WorldOf) (one other : ℕ) : Type 0 where
   pub one_within : one < count world.fabric
   pub other_within : other < count world.fabric
@@ -127,25 +127,25 @@ pub record AreLinked (world : WorldOf) (one other : ℕ) : Type 0 where
   pub there : good_peer (world.switches one) one_port ≡ Some (end_at (world.switches other) other_port)
   pub back : good_peer (world.switches other) other_port ≡ Some (end_at (world.switches one) one_port)
 
--- the component of a place: itself, and each place that is linked to one of it
+-- the component of a switch: itself, and each switch that is linked to one of it
 pub data IsWith (world : WorldOf) (place : ℕ) : ℕ → Type 0 where
   itself : IsWith world place place
   next : (one other : ℕ) → IsWith world place one → AreLinked world one other → IsWith world place other
 
--- the switch at this place has the least life of its component
+-- the switch at index `root` has the least life of its component
 pub record IsRootOf (world : WorldOf) (place root : ℕ) : Type 0 where
   pub within : IsWith world place root
   pub least : (other : ℕ) → IsWith world place other
       → IsTrue (is_le (life_cmp (world.switches root).life (world.switches other).life))
 
--- an entry is that of a member of the component, with its good links
+-- the entry belongs to a member of the component, and has its good links
 pub record HasMember (world : WorldOf) (from : ℕ) (entry : EntryOf) : Type 0 where
   pub place : ℕ
   pub within : IsWith world from place
   pub life : entry.life ≡ (world.switches place).life
   pub links : entry.links ≡ good_links (world.switches place)
 
--- the table in use at a place is the routing table, of the present life, of a topology of its present epoch
+-- the table in use at index `place` is the routing table, for the current life, of `topo` in the current epoch
 pub record UsesTableOf (world : WorldOf) (place : ℕ) (topo : TopoOf) : Type 0 where
   pub used : TableFor
   pub in_use : (station world.fabric place).table ≡ Some used
@@ -153,9 +153,9 @@ pub record UsesTableOf (world : WorldOf) (place : ℕ) (topo : TopoOf) : Type 0 
   pub table : IsTableOf topo.entries topo.numbers (world.switches place).any (world.switches place).life
       used.table
 
--- The component of a place has finished as itself: each member is in one epoch, which it has finished with
--- one topology, built under the least life of the component; its entries are those of the members with their
--- good links, and of no others; and the switch at the place uses its table of that topology.
+-- the component of the switch at index `place` has finished as itself: all members are in one epoch, which they have
+-- finished with one topology, under the least life of the component; its entries are those of the members, with their
+-- good links, and no others; and the switch uses its table of that topology
 pub record IsFinishedAsItself (world : WorldOf) (place : ℕ) : Type 0 where
   pub root : ℕ
   pub is_root : IsRootOf world place root
@@ -179,7 +179,7 @@ abbrev pub IfSettled : ScriptOf → List Event → Type 0
 IfSettled script history =
     end_of script history ≡ Some ending.Settled → AreFinished (world_after script history)
 
--- All that is claimed of a history: what holds at each moment, and what has finished if it ends settled.
+-- all that is claimed of a history: what holds at each point in time, and what has finished if it ends settled
 pub record HoldsThroughout (script : ScriptOf) (history : List Event) : Type 0 where
   pub moments : HoldsAtEachMoment script history
   pub settled : IfSettled script history

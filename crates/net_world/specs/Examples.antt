@@ -1,4 +1,4 @@
--- Histories that were worked out apart from these definitions, with all that is told of them.
+-- Histories that were worked out apart from these definitions, with all lines that report them.
 
 use Rattle.std.specs.Prelude.{◌≡◌, List, [], ◌∷◌, Some, None, codes}
 use Rattle.an_base.specs.declared.event.Event.{Event}
@@ -15,19 +15,20 @@ use Rattle.net_world.specs.Lines.{all_lines}
 use Rattle.net_world.specs.World.{begun}
 use Rattle.net_world.specs.Histories.{IsLegal}
 
--- A history is lawful and has come to an end, and these lines are told of it.
+-- the history is lawful and has this ending, and these lines report it
 pub record IsWorkedOut (script : ScriptOf) (history : List Event) (end : Ending)
     (lines : List Line) : Type 0 where
   pub legal : IsLegal script history end
   pub told : all_lines (begun script) history ≡ lines
 
--- a switch alone, and two switches with a link
+-- a single switch
 abbrev pub one_switch : ScriptOf
 one_switch = record empty_script {
   wires = record { switches = record { uid = 1; had = 1 } ∷ []; links = []; hosts = [] };
   switch_names = codes "A" ∷ [];
 }
 
+-- two switches with a link
 abbrev pub two_switches : ScriptOf
 two_switches = record empty_script {
   wires = record {
@@ -38,7 +39,7 @@ two_switches = record empty_script {
   switch_names = codes "A" ∷ codes "B" ∷ [];
 }
 
--- A switch alone, which is restarted at tick 3 and settles again.
+-- a single switch, which is restarted at tick 3 and settles again
 abbrev pub restart_script : ScriptOf
 restart_script = record one_switch { commands = record { time = 3; event = Restart 0 } ∷ [] }
 
@@ -57,7 +58,7 @@ restart_lines =
     line.Finish 0 1 (record { uid = 1; boot = 2 }) 1 ∷
     line.Load 0 1 1 ∷ []
 
--- A switch with two hosts, which send packets to each other.
+-- a switch with two hosts, which send packets to each other
 abbrev pub packets_script : ScriptOf
 packets_script = record one_switch {
   wires = record one_switch.wires {
@@ -93,7 +94,7 @@ packets_lines =
     line.Moved 2 0 1 12 11 (Some 0) ∷
     line.Moved 3 0 1 11 12 (Some 1) ∷ []
 
--- A switch that is started in the last epoch.
+-- a switch that is started in the last epoch
 abbrev pub spent_script : ScriptOf
 spent_script = record one_switch { epoch = 18446744073709551615 }
 
@@ -103,7 +104,7 @@ spent_history = Clock 0 ∷ Handle 0 ∷ []
 abbrev pub spent_lines : List Line
 spent_lines = line.Spent 0 ∷ []
 
--- A network with room for three events.
+-- a network with room for three events
 abbrev pub full_script : ScriptOf
 full_script = record one_switch { limits = record one_switch.limits { events = 3 } }
 
@@ -115,7 +116,7 @@ full_lines =
     line.Join 0 1 ∷
     line.Finish 0 1 (record { uid = 1; boot = 1 }) 1 ∷ []
 
--- A network that has one tick, so that some commands are never due. A packet is dropped, a link goes down.
+-- a network that has one tick, so that some commands are never due; a packet is dropped, and a link goes down
 abbrev pub unsettled_script : ScriptOf
 unsettled_script = record empty_script {
   wires = record {
@@ -163,7 +164,7 @@ unsettled_lines =
     line.Port 0 4 state.Host None ∷
     line.Port 0 5 state.Dead None ∷ []
 
--- Two switches, on whose link a frame is lost, one is copied and two are exchanged.
+-- two switches, on whose link a frame is lost, one is copied and two are exchanged
 abbrev pub told_script : ScriptOf
 told_script = record two_switches {
   commands =
@@ -206,7 +207,7 @@ told_lines =
     line.Finish 1 2 (record { uid = 1; boot = 1 }) 2 ∷
     line.Load 1 2 2 ∷ []
 
--- the tables that the two use then
+-- the table that the first switch then uses
 abbrev pub first_table : TableOf
 first_table = record {
   number = 1;
@@ -215,6 +216,7 @@ first_table = record {
       record { at = 1; entry = 1; to = 2; exits = 1 ∷ [] } ∷ [];
 }
 
+-- the table that the second switch then uses
 abbrev pub second_table : TableOf
 second_table = record {
   number = 2;
@@ -223,7 +225,7 @@ second_table = record {
       record { at = 2; entry = 1; to = 1; exits = [] } ∷ [];
 }
 
--- Two linked switches with a host each, which send packets to each other over the link.
+-- two linked switches with a host each, which send packets to each other over the link
 abbrev pub routed_script : ScriptOf
 routed_script = record two_switches {
   wires = record two_switches.wires {

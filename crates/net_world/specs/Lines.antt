@@ -1,4 +1,4 @@
--- What is told of an event.
+-- The lines that report an event.
 
 use Rattle.std.specs.Prelude.{◌==◌, ◌-◌, ◌&&◌, ℕ, not, List, [], ◌∷◌, ◌++◌, length, Option, Some, None, is_some, Bool, if◌then◌else◌, slice_index_or}
 use Rattle.std.specs.List.{flat_map}
@@ -30,47 +30,48 @@ use Rattle.an_base.specs.Rows.{RowOf}
 abbrev pub shown_in : NoteOf → ℕ → PortViewOf
 shown_in note port = slice_index_or note.ports (port - 1) no_view
 
--- a port whose state changed, and no port that shows only another end
+-- the line for a port whose state changed; a port that shows only another far end has none
 abbrev pub port_line : ℕ → NoteOf → NoteOf → ℕ → List Line
 port_line place before after port =
     if state_code (shown_in before port).state == state_code (shown_in after port).state then []
     else line.Port place port (shown_in after port).state (shown_in after port).peer ∷ []
 
--- what came in is no frame
+-- the line for bytes that are no frame, if a switch handles such bytes
 abbrev pub no_frame_lines : ℕ → Hand → List ℕ → List Line
 no_frame_lines place hand.Empty bytes = []
 no_frame_lines place (hand.Clock now samples) bytes = []
 no_frame_lines place (hand.Frame port) bytes =
     if is_some (frame_of bytes) then [] else line.NoFrame place port ∷ []
 
--- an epoch was joined
+-- whether an epoch was joined
 abbrev pub has_joined : SwitchOf → SwitchOf → Bool
 has_joined before after = not (after.epoch == before.epoch)
 
+-- the line for the join of an epoch, if one was joined
 abbrev pub join_lines : ℕ → SwitchOf → SwitchOf → List Line
 join_lines place before after = if has_joined before after then line.Join place after.epoch ∷ [] else []
 
--- no epoch is left for a change that is due
+-- the line for a change that is due and has no epoch left
 abbrev pub no_epoch_lines : ℕ → SwitchOf → List Line
 no_epoch_lines place after = if after.spent then line.Spent place ∷ [] else []
 
--- the life under which a topology was built
+-- the root of a topology: the life that it was built under
 abbrev pub root_of : TopoOf → LifeId
 root_of topo = (entry_at topo.entries 0).position.root
 
--- an epoch was finished with a topology; None: it is not finished
+-- the line for an epoch that was finished with a topology, if it is finished
 abbrev pub finish_line : ℕ → ℕ → Option TopoOf → List Line
 finish_line place epoch None = []
 finish_line place epoch (Some topo) = line.Finish place epoch (root_of topo) (length topo.entries) ∷ []
 
--- the present epoch is finished now, and was not before
+-- the line for the current epoch if it is finished now, and was not before
 abbrev pub finish_lines : ℕ → SwitchOf → SwitchOf → List Line
 finish_lines place before after =
     if not (has_joined before after) && is_some (finish_of before) then []
     else finish_line place after.epoch (finish_of after)
 
--- What a switch had in hand was handled: the ports whose state changed, by rising port; bytes that are no
--- frame; the epoch; and the frames that were lost.
+-- the lines for the handling of what a switch held: the ports whose state changed, in ascending order of port; bytes
+-- that are no frame; the epoch; and the frames that were lost
 abbrev pub handle_lines : ℕ → Step → WorldOf → List Line
 handle_lines place step world =
     flat_map (port_line place (note_of (world.switches place)) (note_of step.switch)) externals
@@ -81,12 +82,12 @@ handle_lines place step world =
     ++ lost_lines place (all_spelled step.frames)
     (released (station world.fabric place).hand place world.fabric.wires)
 
--- a table was loaded
+-- the line for a table that was loaded
 abbrev pub load_lines : Option TopoOf → ℕ → SwitchOf → List Line
 load_lines None place switch = []
 load_lines (Some topo) place switch = line.Load place switch.epoch (number_in topo switch.life) ∷ []
 
--- what is told of a lawful event, in the world before it
+-- the lines for a lawful event, by the world before it
 unfoldable pub lines_of : WorldOf → Event → List Line
 lines_of world Tick = []
 lines_of world (Clock place) = []
@@ -97,12 +98,12 @@ lines_of world (Move number) = move_lines (packet_of number world.fabric.packets
 lines_of world (Restart place) = line.Restarted place ∷ []
 lines_of world command = command_lines command world.fabric
 
--- what is told of lawful events in turn
+-- the lines for lawful events, in order
 abbrev pub all_lines : WorldOf → List Event → List Line
 all_lines world [] = []
 all_lines world (event ∷ events) = lines_of world event ++ all_lines (step world event) events
 
--- the rows of the table that is in use after a load, and of no other event
+-- the rows of the table that is in use after a load; none for other events
 abbrev pub rows_after : FabricOf → Event → List RowOf
 rows_after fabric (Load place) = option_map_or (λ table. table.rows) (table_at fabric place) []
 rows_after fabric event = []

@@ -1,4 +1,4 @@
--- The order of one thread.
+-- The order of events if one thread runs everything.
 
 use Rattle.std.specs.Prelude.{◌≡◌, ◌+◌, ◌<◌, ℕ, List, [], ◌∷◌, ◌++◌, length, if◌then◌else◌}
 use Rattle.an_base.specs.declared.event.Event.{Event}
@@ -12,8 +12,8 @@ use Rattle.net_world.specs.World.{WorldOf, world_after}
 use Rattle.net_world.specs.Histories.{last_taken}
 use Rattle.net_state.specs.Choices.{next_work, event_of_work, next_drive}
 
--- The next event of the worker of a switch, if it has one: it handles what is in hand, else loads if a
--- load is due, else takes.
+-- the next event of the worker of a switch, if it has one: it handles what the switch holds; otherwise it loads, if a
+-- load is due; otherwise it takes
 abbrev pub worker_event : WorldOf → ℕ → ℕ → List Event
 worker_event world place last =
     if is_full_at world.fabric place then Handle place ∷ []
@@ -21,8 +21,9 @@ worker_event world place last =
     else if load_due_at world.fabric place then Load place ∷ []
     else event_of_work place (next_work world.fabric place last)
 
--- The workers in the order of the script, each while it has work; then the driver, until it waits; and
--- again. The number is whose turn it is: the place of a worker, or the number of switches for the driver.
+-- a history in which the workers, in the order of the script, have each their turn while they have work, and then the
+-- driver until it waits, and so on; the number says whose turn it is: the index of a worker's switch, or the number of
+-- switches for the driver
 pub data IsOneThread (script : ScriptOf) : List Event → ℕ → Type 0 where
   begins : IsOneThread script [] 0
   works : (history : List Event) (place : ℕ) (event : Event) → IsOneThread script history place
@@ -40,7 +41,7 @@ pub data IsOneThread (script : ScriptOf) : List Event → ℕ → Type 0 where
       → next_drive (world_after script history).fabric ≡ drive.Waits
       → IsOneThread script history 0
 
--- the history that one thread makes, with its end
+-- the history that one thread makes, with its ending
 pub record IsSolo (script : ScriptOf) (history : List Event) (end : Ending) : Type 0 where
   pub order : IsOneThread script history (length script.wires.switches)
   pub ended : next_drive (world_after script history).fabric ≡ drive.Ended end

@@ -1,4 +1,4 @@
--- What is so of every world that is reached.
+-- The invariant of every world that is reached.
 
 use Rattle.std.specs.Prelude.{◌≡◌, ◌+◌, ◌==◌, ◌<◌, ◌≤◌, ℕ, List, length, take, All, Some, IfSome, Bool, true, false, if◌then◌else◌}
 use Rattle.std.specs.List.{sum_by}
@@ -16,16 +16,16 @@ use Rattle.net_state.specs.Fits.{Fits}
 use Rattle.net_state.specs.Lawful.{is_lawful}
 use Rattle.net_world.specs.World.{WorldOf, table_for}
 
--- What a switch has in hand is of this tick: a clock, or a frame that came in by an external port of a
--- switch that is not spent and had its clock; and if it had, its last tick is this one.
+-- what a switch holds is of this tick: a clock event, or a frame that came in on an external port of a switch that is
+-- not spent and has had its clock event; and if it has had it, its last tick is this one
 abbrev pub HandFits : ℕ → ℕ → SwitchOf → Hand → Type 0
 HandFits tick clock switch hand.Empty = clock ≡ tick + 1 → switch.tick ≡ tick
 HandFits tick clock switch (hand.Clock now samples) = (now ≡ tick) × (clock ≡ tick + 1)
 HandFits tick clock switch (hand.Frame port) =
     (1 ≤ port) × (port ≤ 12) × (switch.tick ≡ tick) × (switch.spent ≡ false) × (clock ≡ tick + 1)
 
--- What stands at the place of a switch shows that switch, which is in one of its lives; its next clock is
--- due at the next tick or before.
+-- the station shows the switch, which is in one of its lives, and its next clock event is due at the next tick or
+-- before
 pub record IsPlaceSound (script : ScriptOf) (tick place : ℕ) (at : StationOf)
     (switch : SwitchOf) : Type 0 where
   pub note : at.note ≡ note_of switch
@@ -36,39 +36,41 @@ pub record IsPlaceSound (script : ScriptOf) (tick place : ℕ) (at : StationOf)
   pub clock : at.clock ≤ tick + 1
   pub fits : HandFits tick at.clock switch at.hand
 
--- the place of a switch in the world is sound, and all of them are
+-- the station of the switch at index `place` is sound
 abbrev pub IsSoundAt : ScriptOf → WorldOf → ℕ → Type 0
 IsSoundAt script world place =
     IsPlaceSound script world.fabric.tick place (station world.fabric place) (world.switches place)
 
+-- the stations of all switches are sound
 abbrev pub ArePlacesSound : ScriptOf → WorldOf → Type 0
 ArePlacesSound script world =
     (place : ℕ) → place < length script.wires.switches → IsSoundAt script world place
 
--- whether an event restarts the switch at a place, and how many of these commands do
+-- whether the event restarts the switch at index `place`
 abbrev pub is_restart_at : ℕ → Event → Bool
 is_restart_at place (Restart other) = place == other
 is_restart_at place event = false
 
+-- the number of commands that restart the switch at index `place`
 abbrev pub restarts_at : ℕ → List Command → ℕ
 restarts_at place commands = sum_by (λ command. if is_restart_at place command.event then 1 else 0) commands
 
--- the boot of each switch is 1, and one more for each restart that was done
+-- the boot of the switch at index `place` is 1, plus the number of its restarts that are done
 abbrev pub HasBoot : ScriptOf → WorldOf → ℕ → Type 0
 HasBoot script world place =
     (world.switches place).life.boot ≡ 1 + restarts_at place (take world.fabric.done script.commands)
 
--- a table in use is that of what the present life has finished with in its present epoch
+-- a table in use is that of the topology that the current life has finished with in its current epoch
 pub record IsTableInUse (switch : SwitchOf) (used : TableFor) : Type 0 where
   pub topo : TopoOf
   pub finished : finish_of switch ≡ Some topo
   pub table : used ≡ table_for topo switch
 
--- the table in use at a place, if there is one, is such a table
+-- the table in use at index `place`, if there is one, is that of the topology that its switch has finished with
 abbrev pub HasTable : WorldOf → ℕ → Type 0
 HasTable world place = IfSome (station world.fabric place).table (IsTableInUse (world.switches place))
 
--- All of it: the fabric is as fabrics are, and shows the switches that stand at its places.
+-- the invariant: the fabric keeps its invariant, and its stations show the switches
 pub record IsSoundWorld (script : ScriptOf) (world : WorldOf) : Type 0 where
   pub stays : world.fabric.script ≡ script
   pub fits : Fits world.fabric
@@ -76,20 +78,20 @@ pub record IsSoundWorld (script : ScriptOf) (world : WorldOf) : Type 0 where
   pub boots : (place : ℕ) → HasBoot script world place
   pub tables : (place : ℕ) → place < length script.wires.switches → HasTable world place
 
--- some event may come next
+-- some event is lawful next
 pub record HasNext (fabric : FabricOf) : Type 0 where
   pub event : Event
   pub lawful : is_lawful fabric event ≡ true
 
--- each of these events may come next
+-- each of these events is lawful next
 abbrev pub AllMayCome : FabricOf → List Event → Type 0
 AllMayCome fabric events = All (λ event. is_lawful fabric event ≡ true) events
 
--- a number of a switch
+-- a number that a switch can have
 abbrev pub IsNumber : ℕ → Type 0
 IsNumber number = (1 ≤ number) × (number ≤ 126)
 
--- a topology has as many numbers as entries, each of 1 to 126
+-- the topology has one number for each entry, each from 1 to 126
 pub record TopoFits (topo : TopoOf) : Type 0 where
   pub within : All IsNumber topo.numbers
   pub as_many : length topo.numbers ≡ length topo.entries

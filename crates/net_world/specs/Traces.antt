@@ -1,4 +1,4 @@
--- What the moves of a packet say: its trace, and where it is delivered.
+-- What the moves of a packet show: its trace, and where it is delivered.
 
 use Rattle.std.specs.Prelude.{◌≡◌, ◌+◌, ◌/◌, ◌==◌, ◌≤◌, ℕ, List, [], ◌∷◌, ◌++◌, map, All, Contains, Option, Some, None, unwrap_or, Bool, true, false, if◌then◌else◌}
 use Rattle.an_base.specs.Values.{LifeId, EntryOf, TopoOf}
@@ -24,9 +24,9 @@ use Rattle.net_world.specs.Lines.{root_of}
 use Rattle.net_world.specs.World.{WorldOf, begun, step, world_after}
 use Rattle.net_world.specs.Histories.{in_use, switch_after}
 
--- A hop to another switch: the place where the packet was and the life that was present there, the epoch of
--- the table in use and what the life had finished with, the port by which the packet came in, and the one by
--- which it went on.
+-- a hop to another switch: the index of the switch that the packet was at, and its life then; the epoch of the table in
+-- use, and the topology that the life had finished with; the port that the packet came in on, and the one that it went
+-- out on
 pub record Hopped : Type 0 where
   pub place : ℕ
   pub life : LifeId
@@ -35,11 +35,11 @@ pub record Hopped : Type 0 where
   pub entry : ℕ
   pub exit : ℕ
 
--- nothing was finished
+-- the topology used where none was finished
 abbrev pub no_topo : TopoOf
 no_topo = record { entries = []; numbers = [] }
 
--- the hop of a packet by this exit, in the world before it; `no_topo` if the life has not finished its epoch
+-- the hop of a packet through this exit, by the world before it; `no_topo` if the life has not finished its epoch
 abbrev pub hopped_at : WorldOf → PacketOf → ℕ → Hopped
 hopped_at world packet exit = record {
   place = packet.at;
@@ -50,45 +50,45 @@ hopped_at world packet exit = record {
   exit = exit;
 }
 
--- the hop to another switch, if it is one
+-- this hop, if it leads to another switch
 abbrev pub hopped_by : Hop → WorldOf → PacketOf → List Hopped
 hopped_by (hop.Went exit) world packet = hopped_at world packet exit ∷ []
 hopped_by (hop.Delivered exit host) world packet = []
 hopped_by (hop.Dropped why) world packet = []
 
--- None: no packet, and no hop
+-- the next hop of this packet, if there is a packet and the hop leads to another switch
 abbrev pub hopped_of : Option PacketOf → WorldOf → List Hopped
 hopped_of None world = []
 hopped_of (Some packet) world = hopped_by (hop_of world.fabric packet) world packet
 
--- that of the packet of a number by an event
+-- the hop of the packet with this number by an event, if the event moves it to another switch
 abbrev pub event_hop : ℕ → WorldOf → Event → List Hopped
 event_hop number world (Move other) =
     if other == number then hopped_of (packet_of other world.fabric.packets) world else []
 event_hop number world event = []
 
--- The trace of a packet: its hops to other switches by the lawful events, in turn.
+-- the trace of a packet: its hops to other switches by the lawful events, in order
 abbrev pub trace_from : ℕ → WorldOf → List Event → List Hopped
 trace_from number world [] = []
 trace_from number world (event ∷ events) =
     (if is_lawful world.fabric event then event_hop number world event else [])
     ++ trace_from number (step world event) events
 
--- from the beginning of the network on
+-- the trace of a packet, from the start of the network on
 unfoldable pub trace_of : ScriptOf → List Event → ℕ → List Hopped
 trace_of script history number = trace_from number (begun script) history
 
--- what is told of a hop
+-- the line that reports a hop
 abbrev pub moved_line : ℕ → Hopped → Line
 moved_line number hop = line.Moved number hop.place hop.epoch hop.entry hop.exit None
 
--- whether a line tells of a hop of this packet to another switch
+-- whether a line reports a hop of this packet to another switch
 abbrev pub tells_of_hop : ℕ → Line → Bool
 tells_of_hop number (line.Moved packet place epoch entry exit None) = packet == number
 tells_of_hop number other = false
 
--- A hop was made at a moment: the packet was there, the table in use was that of what the life had finished
--- with in its epoch, and the packet went by the lowest exit of the row that serves it.
+-- the hop was made after the events `before`: the packet was there, the table in use was that of the topology that the
+-- life had finished with in its epoch, and the packet took the lowest exit of the row that forwards it
 pub record IsHopAt (script : ScriptOf) (before : List Event) (number : ℕ) (hop : Hopped) : Type 0 where
   pub packet : PacketOf
   pub there : packet_of number (world_after script before).fabric.packets ≡ Some packet
@@ -104,7 +104,7 @@ pub record IsHopAt (script : ScriptOf) (before : List Event) (number : ℕ) (hop
   pub exit : Contains (exits_of used.table (row_entry packet) (packet.address / 16)) hop.exit
   pub lowest : All (λ port. hop.exit ≤ port) (exits_of used.table (row_entry packet) (packet.address / 16))
 
--- it was made by a lawful event of a history
+-- the hop was made by a lawful event of the history
 pub record IsHopOf (script : ScriptOf) (history : List Event) (number : ℕ) (hop : Hopped) : Type 0 where
   pub before : List Event
   pub later : List Event
@@ -112,20 +112,20 @@ pub record IsHopOf (script : ScriptOf) (history : List Event) (number : ℕ) (ho
   pub lawful : is_lawful (world_after script before).fabric (Move number) ≡ true
   pub made : IsHopAt script before number hop
 
--- each hop of a trace is by the table in use
+-- each hop of a trace follows the table in use
 abbrev pub AreHopsByTables : ScriptOf → List Event → Type 0
 AreHopsByTables script history = (number : ℕ) (hop : Hopped)
     → Contains (trace_of script history number) hop → IsHopOf script history number hop
 
--- Hops lead over the links of a topology from one member to another, by their places among the entries, each
--- from the life that is there.
+-- the hops lead over the links of a topology from member `from` to member `to`, given by their indices among the
+-- entries, and each starts at the life that is there
 abbrev pub LeadAlong : List EntryOf → ℕ → List Hopped → ℕ → Type 0
 LeadAlong entries from [] to = from ≡ to
 LeadAlong entries from (hop ∷ hops) to =
     (life_at entries from ≡ hop.life)
     × ((next port : ℕ) × (far_of entries from hop.exit ≡ Some (next, port)) × LeadAlong entries next hops to)
 
--- hops are by tables of one topology, and form a legal route of it
+-- the hops follow tables of one topology, and form a legal route of it
 pub record FormRoute (topo : TopoOf) (hops : List Hopped) : Type 0 where
   pub same : All (λ hop. hop.topo ≡ topo) hops
   pub from : ℕ
@@ -133,7 +133,7 @@ pub record FormRoute (topo : TopoOf) (hops : List Hopped) : Type 0 where
   pub along : LeadAlong topo.entries from hops to
   pub legal : LegalRoute topo.entries from (map (λ hop. hop.exit) hops) to
 
--- Hops of a trace that follow each other under tables of one epoch and root form a legal route.
+-- consecutive hops of a trace under tables of the same epoch and root form a legal route
 abbrev pub AreLegalRoutes : ScriptOf → List Event → Type 0
 AreLegalRoutes script history =
     (number epoch : ℕ) (root : LifeId) (earlier later : List Hopped) (first : Hopped) (hops : List Hopped)
@@ -141,7 +141,7 @@ AreLegalRoutes script history =
     → All (λ hop. (hop.epoch ≡ epoch) × (root_of hop.topo ≡ root)) (first ∷ hops)
     → FormRoute first.topo (first ∷ hops)
 
--- the packet of this number was sent to this host
+-- the packet with this number was sent to this host
 pub record WasSentTo (script : ScriptOf) (history : List Event) (number host : ℕ) : Type 0 where
   pub before : List Event
   pub from : ℕ
@@ -150,14 +150,14 @@ pub record WasSentTo (script : ScriptOf) (history : List Event) (number host : �
   pub lawful : is_lawful (world_after script before).fabric (Send from host) ≡ true
   pub number_is : number ≡ (world_after script before).fabric.sent + 1
 
--- A packet that is delivered is at the host to which it was sent.
+-- a packet that is delivered is at the host that it was sent to
 abbrev pub AreDelivered : ScriptOf → List Event → Type 0
 AreDelivered script history = (number : ℕ) (packet : PacketOf) (exit host : ℕ)
     → packet_of number (world_after script history).fabric.packets ≡ Some packet
     → hop_of (world_after script history).fabric packet ≡ hop.Delivered exit host
     → WasSentTo script history number host × (far_at script.wires packet.at exit ≡ Some (HostAt host))
 
--- what the moves of packets say after a history
+-- what is claimed of the moves of packets after a history
 pub record AreTraced (script : ScriptOf) (history : List Event) : Type 0 where
   pub hops : AreHopsByTables script history
   pub routes : AreLegalRoutes script history

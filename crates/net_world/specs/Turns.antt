@@ -1,4 +1,4 @@
--- What may be asked of a book, which keeps a history for its callers, and what it answers.
+-- The requests that callers can make of the journal store (the book), which keeps a history for them, and its replies.
 
 use Rattle.std.specs.Prelude.{◌≡◌, ◌+◌, ◌<◌, ℕ, not, List, [], ◌∷◌, ◌++◌, length, Option, Some, is_some, option_to_list, Bool, true, false}
 use Rattle.std.specs.Global.{Box}
@@ -39,13 +39,13 @@ use Rattle.net_world.specs.Accounts.{placed_lines}
 use Rattle.net_world.specs.World.{WorldOf, world_after, handled}
 use Rattle.net_world.specs.Histories.{last_taken}
 
--- what is in hand is bytes of a frame that are no frame
+-- whether the switch holds bytes that are no frame
 abbrev pub is_noise : Hand → List ℕ → Bool
 is_noise hand.Empty bytes = false
 is_noise (hand.Clock now samples) bytes = false
 is_noise (hand.Frame port) bytes = not (is_some (frame_of bytes))
 
--- These frames go out when a switch handles what it has in hand, and this it shows then.
+-- these frames go out when the switch handles what it holds, and this is what it then shows
 pub record Handled (world : WorldOf) (place : ℕ) (frames : List BytesOut) (note : NoteOf)
     (spent : Bool) : Type 0 where
   pub full : is_full_at world.fabric place ≡ true
@@ -53,14 +53,14 @@ pub record Handled (world : WorldOf) (place : ℕ) (frames : List BytesOut) (not
   pub note_is : note ≡ note_of (handled place world).switch
   pub spent_is : spent ≡ (handled place world).switch.spent
 
--- This is what came of what a switch had in hand.
+-- `done` is the result of handling what the switch held
 pub record IsDone (world : WorldOf) (place : ℕ) (done : Done) : Type 0 where
   pub handled_is : Handled world place done.frames done.note done.spent
   pub noframe : done.noframe ≡ is_noise (station world.fabric place).hand (held_bytes world.fabric place)
 
--- This is the table that a switch is to load, and what the switch shows then. That the topology is a graph,
--- with as many numbers as entries, all different and of 1 to 126, is asked of the caller, who has it of the
--- switch. It holds of whatever a switch in the world finishes with, which is a law above these definitions.
+-- `given` is the table that the switch is to load, and `note` what it then shows. The caller must know that the
+-- topology is a graph with a different number from 1 to 126 for each entry, and knows it from the switch; a theorem
+-- above these definitions says that it holds for everything that a switch in the world finishes with
 pub record IsToLoad (world : WorldOf) (place : ℕ) (given : TableFor) (note : NoteOf) : Type 0 where
   pub empty : is_full_at world.fabric place ≡ false
   pub due : load_due_at world.fabric place ≡ true
@@ -74,12 +74,12 @@ pub record IsToLoad (world : WorldOf) (place : ℕ) (given : TableFor) (note : N
       given.table
   pub note_is : note ≡ note_of (loaded given.table.number (world.switches place))
 
--- the caller is the worker of the switch at a place
+-- the caller is the worker of the switch at index `place`
 pub record IsWorkerOf (script : ScriptOf) (place caller : ℕ) : Type 0 where
   pub within : place < length script.wires.switches
   pub caller_is : caller ≡ place + 1
 
--- what is asked is of the world after a history, and the caller's to ask
+-- the request fits the world after the history, and the caller may make it
 abbrev pub MayAsk : ScriptOf → List Event → ℕ → Ask → Type 0
 MayAsk script history caller (ask.Take place letter) =
     IsWorkerOf script place caller × (is_full_at (world_after script history).fabric place ≡ false)
@@ -91,25 +91,25 @@ MayAsk script history caller (ask.Load place sheet) =
     × IsToLoad (world_after script history) place sheet.value.table sheet.value.note
 MayAsk script history caller (ask.Drive slip) = caller ≡ 0
 
--- Which asks are fit after a history of a script that can be.
+-- the request is valid after this history of a valid script
 pub record IsFit (script : ScriptOf) (history : List Event) (caller : ℕ) (ask : Ask) : Type 0 where
   pub kept : IsScript script
   pub may_ask : MayAsk script history caller ask
 
--- the bytes of a frame that was taken are in the buffer
+-- if the work is a frame, its bytes are in the buffer
 abbrev pub HasBytes : Work → FabricOf → ℕ → List ℕ → Type 0
 HasBytes (work.Frame port) fabric place out = out ≡ held_bytes fabric place
 HasBytes (work.Restart life) fabric place out = Unit {0}
 HasBytes (work.Clock now samples) fabric place out = Unit {0}
 HasBytes (work.Nothing reason) fabric place out = Unit {0}
 
--- all that is told of what comes after a history, if at most one event does
+-- `told` is the only line that reports these events after a history, if a line does
 abbrev pub IsTold : ScriptOf → List Event → List Event → Option PlacedLine → Type 0
 IsTold script history events told =
     option_to_list told ≡ flat_map (placed_lines (world_after script history)) events
 
--- What is replied to the worker of a place, and the history afterwards: its next work, whose event, if it has
--- one, has come.
+-- the reply to the worker of a switch is its next work, and the event of that, if it has one, is appended to the
+-- history
 pub record TakesWork (script : ScriptOf) (history : List Event) (place : ℕ) (job : Work) (out : List ℕ)
     (told : Option PlacedLine) (after : List Event) : Type 0 where
   pub work_is : job ≡ next_work (world_after script history).fabric place (last_taken place history)
@@ -117,12 +117,12 @@ pub record TakesWork (script : ScriptOf) (history : List Event) (place : ℕ) (j
   pub bytes : HasBytes job (world_after script after).fabric place out
   pub told_is : IsTold script history (event_of_work place job) told
 
--- what is told of the frames of a switch that gives up what it has in hand
+-- `puts` are the lines for the lost frames of a switch that handles what it holds
 abbrev pub AreTold : FabricOf → ℕ → List BytesOut → List (Option Line) → Type 0
 AreTold fabric place frames puts =
     flat_map option_to_list puts ≡ lost_lines place frames (wires_at_hand fabric place)
 
--- What was done is handed back, with what became of each frame, and it has been handled.
+-- the result is returned with the lines for its lost frames, and the handling is appended to the history
 pub record PutsFrames (script : ScriptOf) (history : List Event) (place : ℕ) (given back : Parcel)
     (after : List Event) : Type 0 where
   pub same : back.done ≡ given.done
@@ -130,8 +130,7 @@ pub record PutsFrames (script : ScriptOf) (history : List Event) (place : ℕ) (
   pub event : after ≡ history ++ Handle place ∷ []
   pub number_is : back.event ≡ (world_after script after).fabric.events
 
--- The table is in use. If a switch is spent, or there is too little room, the sheet is handed back, and
--- nothing has come.
+-- the table is in use, and the load is appended to the history
 pub record Loads (script : ScriptOf) (history : List Event) (place : ℕ) (answer : Reply)
     (after : List Event) : Type 0 where
   pub told : PlacedLine
@@ -139,34 +138,38 @@ pub record Loads (script : ScriptOf) (history : List Event) (place : ℕ) (answe
   pub told_is : IsTold script history (Load place ∷ []) (Some told)
   pub event : after ≡ history ++ Load place ∷ []
 
+-- the table is in use; but if the load is barred, because a switch is spent or there is too little room, the sheet is
+-- returned, and the history is unchanged
 abbrev pub LoadsOrNot : Bool → Box Sheet → Reply → ℕ → ScriptOf → List Event → List Event → Type 0
 LoadsOrNot false sheet answer place script history after = Loads script history place answer after
 LoadsOrNot true sheet answer place script history after = (answer ≡ reply.NotNow sheet) × (after ≡ history)
 
--- the next thing of the driver, whose event, if it has one, has come
+-- the reply to the driver is its next action, and the event of that, if it has one, is appended to the history
 pub record Drives (script : ScriptOf) (history : List Event) (did : Drive) (told : Option PlacedLine)
     (after : List Event) : Type 0 where
   pub drive_is : did ≡ next_drive (world_after script history).fabric
   pub event : after ≡ history ++ event_of_drive did
   pub told_is : IsTold script history (event_of_drive did) told
 
--- each ask gets the reply of its kind, and no other kind answers it
+-- the answer to a request for work has its kind, and is right
 abbrev pub AnswersTake : ScriptOf → List Event → ℕ → Reply → List Event → Type 0
 AnswersTake script history place (reply.Take letter) after =
     TakesWork script history place letter.value.work letter.value.buffer letter.value.told after
 AnswersTake script history place other after = ⊥
 
+-- the answer to a delivered result has its kind, and is right
 abbrev pub AnswersPut : ScriptOf → List Event → ℕ → Parcel → Reply → List Event → Type 0
 AnswersPut script history place given (reply.Put back) after =
     PutsFrames script history place given back.value after
 AnswersPut script history place given other after = ⊥
 
+-- the answer to the driver's request has its kind, and is right
 abbrev pub AnswersDrive : ScriptOf → List Event → Reply → List Event → Type 0
 AnswersDrive script history (reply.Drive slip) after =
     Drives script history slip.value.drive slip.value.told after
 AnswersDrive script history other after = ⊥
 
--- what answers an ask, between the history before it and the one after it
+-- the answer to a request is right, between the history before it and the one after it
 abbrev pub AnswersAsk : ScriptOf → List Event → Ask → Reply → List Event → Type 0
 AnswersAsk script history (ask.Take place letter) answer after =
     AnswersTake script history place answer after

@@ -24,13 +24,13 @@ use Rattle.net_state.specs.Lawful.{is_lawful}
 use Rattle.net_state.specs.Effects.{after_tick, after_clock, after_take, after_handle, after_load, after_restart}
 use Rattle.net_state.specs.Effects.{on_wires, noise_out, after_send, after_move}
 
--- A network as it stands: its fabric, and all that each switch needs of what happened to it. A switch is
--- known by its place in the script, from 0.
+-- the state of a network: its fabric, and what each switch depends on; switches are known by their index in the script,
+-- from 0
 pub record WorldOf : Type 0 where
   pub fabric : FabricOf
   pub switches : ℕ → SwitchOf
 
--- what the switch at a place is started with in each of its lives
+-- what the switch at index `place` is started with in its life of this boot
 abbrev pub start_of : ScriptOf → ℕ → ℕ → StartOf
 start_of script place boot = record {
   life = life_of script place boot;
@@ -39,12 +39,12 @@ start_of script place boot = record {
   any = script.any_routes;
 }
 
--- the switch at a place as it starts that life
+-- the switch at index `place` when it starts its life of this boot
 abbrev pub started_at : ScriptOf → ℕ → ℕ → SwitchOf
 started_at script place boot = started_as (start_of script place boot)
 
--- At first all links are up, nothing is on the wires, no table is in use, and each switch's first clock is
--- due.
+-- the station of the switch at index `place` at the start: nothing is held, no table is in use, and its first clock
+-- event is due
 abbrev pub first_station : ScriptOf → ℕ → StationOf
 first_station script place = record {
   hand = hand.Empty;
@@ -54,7 +54,7 @@ first_station script place = record {
   spent = false;
 }
 
--- the world of a script before any event
+-- the world of a script before any event: all links are up, and the wires are empty
 abbrev pub begun : ScriptOf → WorldOf
 begun script = record {
   fabric = record {
@@ -71,33 +71,33 @@ begun script = record {
   switches = λ place. started_at script place 1;
 }
 
--- What a switch does with what is in its hand: a clock; or the bytes of a frame that came in by a port, and
--- nothing with bytes that are no frame.
+-- the step of a switch for the bytes that came in on `port`, by the frame that they are, if they are one
 abbrev pub handles_bytes : ℕ → Option Frame → SwitchOf → Step
 handles_bytes port frame switch = acted (hears port frame) switch
 
+-- the step of a switch that handles what it holds: a clock event, or bytes; bytes that are no frame do nothing
 unfoldable pub handles : Hand → List ℕ → SwitchOf → Step
 handles hand.Empty bytes switch = still switch
 handles (hand.Clock now samples) bytes switch = acted (Clocks now samples) switch
 handles (hand.Frame port) bytes switch = handles_bytes port (frame_of bytes) switch
 
--- the same at the place of a switch in the world
+-- the step of the switch at index `place` in the world, when it handles what it holds
 abbrev pub handled : ℕ → WorldOf → Step
 handled place world =
     handles (station world.fabric place).hand (held_bytes world.fabric place) (world.switches place)
 
--- the world after a step of the switch at a place
+-- the world after a step of the switch at index `place`
 abbrev pub stepped : ℕ → Step → WorldOf → WorldOf
 stepped place step world = record {
   fabric = after_handle place (all_spelled step.frames) (note_of step.switch) step.switch.spent world.fabric;
   switches = at_port place step.switch world.switches;
 }
 
--- the table of what a switch has finished with, for its present epoch
+-- the table of the topology that a switch has finished with, for its current epoch
 abbrev pub table_for : TopoOf → SwitchOf → TableFor
 table_for topo switch = record { epoch = switch.epoch; table = table_of topo switch.any switch.life }
 
--- the table of this topology is loaded; None: nothing changes
+-- the world after the table of this topology is loaded; unchanged if there is none
 abbrev pub loads_with : Option TopoOf → ℕ → WorldOf → WorldOf
 loads_with None place world = world
 loads_with (Some topo) place world = record {
@@ -108,22 +108,22 @@ loads_with (Some topo) place world = record {
       world.switches;
 }
 
--- the next life of the switch at a place
+-- the next life of the switch at index `place`
 abbrev pub next_life : ℕ → WorldOf → SwitchOf
 next_life place world = started_at world.fabric.script place ((world.switches place).life.boot + 1)
 
--- the switch at a place begins its next life
+-- the world after the switch at index `place` starts its next life
 abbrev pub restarts : ℕ → WorldOf → WorldOf
 restarts place world = record {
   fabric = after_restart place (note_of (next_life place world)) world.fabric;
   switches = at_port place (next_life place world) world.switches;
 }
 
--- only the fabric changes
+-- the world after only its fabric changes
 abbrev pub in_fabric : (FabricOf → FabricOf) → WorldOf → WorldOf
 in_fabric change world = record world { fabric = change world.fabric }
 
--- what a lawful event makes of the world
+-- the effect of a lawful event on the world
 unfoldable pub effect : Event → WorldOf → WorldOf
 effect Tick world = in_fabric after_tick world
 effect (Clock place) world = in_fabric (after_clock place) world
@@ -143,15 +143,15 @@ effect (Send from to) world = in_fabric (after_send from to) world
 effect (Move packet) world = in_fabric (after_move packet) world
 effect (Restart place) world = restarts place world
 
--- the step of the world: what is not lawful changes nothing
+-- the step of the world: an event that is not lawful changes nothing
 unfoldable pub step : WorldOf → Event → WorldOf
 step world event = if is_lawful world.fabric event then effect event world else world
 
--- the world after events
+-- the world after these events, in order
 abbrev pub after_all : List Event → WorldOf → WorldOf
 after_all [] world = world
 after_all (event ∷ events) world = after_all events (step world event)
 
--- after a history, from the beginning of the network on
+-- the world after a history, from the start of the network on
 unfoldable pub world_after : ScriptOf → List Event → WorldOf
 world_after script history = after_all history (begun script)

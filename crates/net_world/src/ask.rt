@@ -1,8 +1,8 @@
-//! What callers ask of a book, and what it replies.
+//! The requests that callers make of the journal store (the book), and its replies.
 //!
-//! All that is large lies in a box, which goes to and fro: so few bytes are moved, and the book takes no memory for
-//! what it is asked. A letter, a parcel and a slip come back with the reply, and serve for the next ask; a sheet is
-//! made for each table.
+//! Everything large is in a box that travels with the request and its reply, so few bytes are moved, and the store
+//! allocates nothing for a request. A letter, a parcel and a slip return with the reply, and can be used again; a
+//! sheet is made for each table.
 
 use an_base::place::Place;
 use an_base::port::Note;
@@ -12,12 +12,12 @@ use net_state::work::{Drive, Work};
 use switch_core::out::Frames;
 use switch_core::switch::TableFor;
 
-/// What came of what a switch had in hand.
+/// The result of handling what a switch held.
 #[derive(Drop)]
 pub struct Done {
     /// The frames that go out.
     pub frames: Frames,
-    /// Whether what came in is no frame.
+    /// Whether the bytes that came in are no frame.
     pub noframe: bool,
     /// What the switch shows of itself now.
     pub note: Note,
@@ -25,101 +25,101 @@ pub struct Done {
     pub spent: bool,
 }
 
-/// On which a worker is told its next work.
+/// The request and reply in which a worker learns its next work.
 #[derive(Drop)]
 pub struct Letter {
-    /// Where the bytes of a frame go.
+    /// The buffer for the bytes of a frame.
     pub buffer: FrameBuf,
     /// The work.
     pub work: Work,
-    /// What is told of its event, if something is.
+    /// The line that reports the event of the work, if there is one.
     pub told: Option<PlacedLine>,
 }
 
-/// In which a worker puts what came of what its switch had in hand.
+/// The request and reply in which a worker delivers the result of handling what its switch held.
 #[derive(Drop)]
 pub struct Parcel {
-    /// What came of it.
+    /// The result.
     pub done: Done,
-    /// Where what is told of each frame is noted.
+    /// For each frame, the line that reports its loss, if it was lost.
     pub puts: Vec<Option<Line>>,
-    /// The place of the event in the history, from 1, once there is one.
+    /// The position of the event in the history, from 1, once there is one.
     pub event: u32,
 }
 
-/// A table that a switch is to use.
+/// The request in which a worker delivers a table that its switch is to use.
 #[derive(Drop)]
 pub struct Sheet {
     /// The table.
     pub table: TableFor,
-    /// What the switch shows of itself then.
+    /// What the switch then shows of itself.
     pub note: Note,
 }
 
-/// On which the driver is told what it did.
+/// The request and reply in which the driver learns what it did.
 #[derive(Drop)]
 pub struct Slip {
     /// What was done.
     pub drive: Drive,
-    /// What is told of its event, if something is.
+    /// The line that reports its event, if there is one.
     pub told: Option<PlacedLine>,
 }
 
-/// What a caller asks.
+/// A request.
 #[derive(Drop)]
 pub enum Ask {
-    /// For the next work of a switch.
+    /// Asks for the next work of a switch.
     Take {
         /// The switch.
         s: Place,
-        /// Where the work is written.
+        /// Receives the work.
         letter: Box<Letter>,
     },
-    /// To take what came of what a switch had in hand.
+    /// Delivers the result of handling what a switch held.
     Put {
         /// The switch.
         s: Place,
-        /// What came of it.
+        /// The result.
         parcel: Box<Parcel>,
     },
-    /// To use a table.
+    /// Asks to put a table into use.
     Load {
         /// The switch.
         s: Place,
         /// The table.
         sheet: Box<Sheet>,
     },
-    /// To do the next thing that belongs to no switch.
+    /// Asks to do the next thing that belongs to no switch.
     Drive {
-        /// Where what was done is written.
+        /// Receives what was done.
         slip: Box<Slip>,
     },
 }
 
-/// What is replied.
+/// A reply.
 #[derive(Drop)]
 pub enum Reply {
-    /// To `Take`.
+    /// The reply to `Take`.
     Take {
         /// The work.
         letter: Box<Letter>,
     },
-    /// To `Put`.
+    /// The reply to `Put`.
     Put {
-        /// What was given, with what is told of it.
+        /// The parcel of the request, with the lines for its frames.
         parcel: Box<Parcel>,
     },
-    /// To `Load`: the table is in use.
+    /// The reply to `Load` if the table is in use.
     Loaded {
-        /// What is told of it.
+        /// The line that reports it.
         told: PlacedLine,
     },
-    /// To `Load`: the table is handed back.
+    /// The reply to `Load` if the table is returned unused.
     NotNow {
         /// The table.
         sheet: Box<Sheet>,
     },
-    /// To `Drive`.
+    /// The reply to `Drive`.
     Drive {
         /// What was done.
         slip: Box<Slip>,

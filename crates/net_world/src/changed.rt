@@ -1,4 +1,4 @@
-//! A law of histories that were worked out, with one event changed.
+//! A theorem about histories that were worked out apart from the definitions, with one event changed.
 
 ghost use Rattle.std.specs.Prelude.{◌≡◌, take, None};
 ghost use Rattle.an_base.specs.declared.event.Event.TheVariants.{Tick, Clock, Take, Handle, Load, Move};
@@ -9,11 +9,14 @@ ghost use Rattle.net_world.specs.Examples.{packets_script, packets_history};
 ghost use Rattle.net_world.specs.Examples.{spent_script, spent_history};
 ghost use Rattle.net_world.specs.Examples.{told_script, told_history};
 
-/// These histories are lawful to their ends. With one event put in or left out, so many events are still lawful and
-/// the next one is not: a load before anything is finished, or once more; a clock that is not due; a second clock or a
-/// restart with a full hand; what is in an empty hand handled; a frame taken that nobody sent; a load in an
-/// epoch that was joined and not finished; a packet moved after it was delivered; a tick while one is under
-/// way; a tick after the end. If the last load is left out, no end has come.
+/// With one event added or removed, these lawful histories are lawful for a given number of events, and the next
+/// event is not lawful.
+///
+/// The added event is: a load before anything is finished, or a second load; a clock event that is not due; a second
+/// clock event, or a restart, while the switch holds something; handling by a switch that holds nothing; taking a
+/// frame that nobody sent; a load in an epoch that was joined and not finished; moving a packet after it was
+/// delivered; a tick while a packet is in flight; or a tick after the end. If the last load is left out, the
+/// history has not ended.
 pub fn some_changes_are_refused()
     ensures early { IsRefusedAfter 0 restart_script (with_added 0 (Load 0) restart_history) }
     ensures twice { IsRefusedAfter 3 restart_script (with_added 3 (Load 0) restart_history) }

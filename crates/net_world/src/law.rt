@@ -1,6 +1,6 @@
-//! Laws of the world: what is so of every world that is reached, which events may come next, and what stays
-//! under events of others. They hold after any events, lawful or not, since an event that is not lawful
-//! changes nothing. The last one has whole histories, one for each end.
+//! Theorems about the world: the invariant of every world that is reached, which events are lawful next, and what
+//! the events of others leave unchanged. They hold after any events, lawful or not, because an event that is not
+//! lawful changes nothing. The last one has whole histories, one for each ending.
 
 ghost use Rattle.std.specs.Prelude.{◌≡◌, ◌≢◌, ◌+◌, ◌==◌, ◌<◌, ◌≤◌, ℕ, List, [], ◌++◌, All, filter, length, map, is_some, ◌∷◌, Some, None, true, false};
 ghost use Rattle.an_base.specs.Values.{TopoOf};
@@ -35,13 +35,13 @@ ghost use Rattle.net_world.specs.Examples.{first_table, second_table};
 ghost use Rattle.net_world.specs.Examples.{routed_script, routed_history, routed_lines};
 ghost use Rattle.net_state.specs.declared.line.Line.TheVariants as line;
 
-/// After any events of a script that can be, the world is sound.
+/// After any events of a valid script, the world is sound.
 pub fn a_world_is_sound()
     ensures sound { (script : ScriptOf) → IsScript script → (history : List Event)
         → IsSoundWorld script (world_after script history) }
 {}
 
-/// No switch has more lives than the script gives it, and no two have one life.
+/// No switch has more lives than the script gives it, and no two switches have the same life.
 pub fn lives_differ()
     ensures boots { (script : ScriptOf) (history : List Event) (place : ℕ)
         → ((world_after script history).switches place).life.boot ≤ 1 + restarts_of script.commands }
@@ -52,8 +52,9 @@ pub fn lives_differ()
         → one ≡ other }
 {}
 
-/// Each switch is sound, after no more clocks and frames than there were events, and what it finishes with
-/// has as many numbers as entries, each of 1 to 126.
+/// Each switch is sound, after at most as many clock events and frames as there were events.
+///
+/// A topology that it finishes with has one number for each entry, each from 1 to 126.
 pub fn a_switch_is_sound()
     ensures sound { (script : ScriptOf) → IsScript script → (history : List Event) (place : ℕ)
         → place < length script.wires.switches
@@ -63,15 +64,17 @@ pub fn a_switch_is_sound()
         → finish_of ((world_after script history).switches place) ≡ Some topo → TopoFits topo }
 {}
 
-/// If no end has come, some event may come next.
+/// If the history has not ended, some event is lawful next.
 pub fn some_event_may_come_next()
     ensures next { (script : ScriptOf) → IsScript script → (history : List Event)
         → is_some (ending_of (world_after script history).fabric) ≡ false
         → HasNext (world_after script history).fabric }
 {}
 
-/// What a turn appends may come next: the work of a switch whose hand is empty, the handling of what is in
-/// hand, a load that is due if nothing bars it, and the next thing of the driver.
+/// The event that a turn appends is lawful.
+///
+/// It is the work of a switch that holds nothing, the handling of what a switch holds, a load that is due if nothing
+/// bars it, or the next action of the driver.
 pub fn what_a_turn_appends_is_lawful()
     ensures work { (script : ScriptOf) (history : List Event) (place last : ℕ)
         → place < length script.wires.switches → is_full_at (world_after script history).fabric place ≡ false
@@ -90,8 +93,9 @@ pub fn what_a_turn_appends_is_lawful()
         (event_of_drive (next_drive (world_after script history).fabric)) }
 {}
 
-/// Events that belong to others leave the place of a switch, the switch, and the bytes in its hand as they
-/// were; so an ask that was fit stays fit after them.
+/// Events that belong to others do not change the station of a switch, the switch, or the bytes that it holds.
+///
+/// So a request that was valid remains valid after them.
 pub fn others_change_nothing_here()
     ensures place { (script : ScriptOf) (history more : List Event) (place : ℕ)
         → All (λ event. owner_of event ≢ place + 1) more
@@ -110,34 +114,35 @@ pub fn others_change_nothing_here()
         → IsFit script (history ++ more) caller ask }
 {}
 
-/// The fabric has counted each event of a lawful history.
+/// The fabric has counted every event of a lawful history.
 pub fn each_lawful_event_counts()
     ensures { (script : ScriptOf) → IsScript script → (history : List Event) → IsLawful script history
         → (world_after script history).fabric.events ≡ length history }
 {}
 
-/// One thread makes one history of a script, with one end.
+/// One thread makes only one history of a script, with one ending.
 pub fn one_run_on_one_thread()
     ensures { (script : ScriptOf) (one other : List Event) (end last : Ending)
         → IsSolo script one end → IsSolo script other last → (one ≡ other) × (end ≡ last) }
 {}
 
-/// What one thread makes is a lawful history with that end.
+/// The history that one thread makes is lawful, and has its ending.
 pub fn a_run_on_one_thread_is_legal()
     ensures { (script : ScriptOf) → IsScript script → (history : List Event) (end : Ending)
         → IsSolo script history end → IsLegal script history end }
 {}
 
-/// What is told of the hops of a packet to other switches, in a lawful history, is its trace.
+/// In a lawful history, the lines that report the hops of a packet to other switches are its trace.
 pub fn what_is_told_of_hops_is_the_trace()
     ensures { (script : ScriptOf) (history : List Event) (number : ℕ) → IsLawful script history
         → filter (tells_of_hop number) (all_lines (begun script) history)
         ≡ map (moved_line number) (trace_of script history number) }
 {}
 
-/// Of these scripts these histories are lawful and end so, and these lines are told of them: a restart,
-/// packets, an end in each of the four ways, frames that are lost, copied and exchanged on a link, whose two
-/// switches use these tables then, and packets over a link, the first of which has this trace.
+/// These histories of these scripts are lawful, have these endings, and are reported by these lines.
+///
+/// They contain a restart; packets; an ending of each of the four kinds; frames that are lost, copied and exchanged on
+/// a link, whose two switches then use these tables; and packets over a link, the first of which has this trace.
 pub fn some_histories_are_worked_out()
     ensures restart { IsWorkedOut restart_script restart_history ending.Settled restart_lines }
     ensures packets { IsWorkedOut packets_script packets_history ending.Settled packets_lines }

@@ -1,15 +1,16 @@
-//! The world of a network in one process: its fabric, which all may see, and what each switch alone knows;
-//! which events may come next, what each makes of the world, and which lines are told of it; the ends; and
-//! what is claimed at each moment.
+//! autonet, network: model of the whole simulated network.
 //!
-//! It has no code that runs but types. It stands on `switch_core`, whose definitions say what a switch does
-//! with a clock, a frame and a load, on `wire_set` for links and frames, `net_script` for what a network is
-//! begun with, and `table_build` for tables. `specs/World` has the world and its step; `specs/Lawful` and
-//! `specs/Effects` of `net_state` have one line for each event.
+//! The world of a network has its fabric, which all can see, and what only each switch knows. This crate defines
+//! which events are lawful, their effects on the world, the lines that report them, the endings, and what is claimed
+//! at each point in time. It has definitions, theorems and the types of requests, but no code that runs.
 //!
-//! Its laws: after any events the world keeps its invariant, and each switch is sound; if no end has
-//! come some event may come next; what a turn of a worker or of the driver appends may come next, and
-//! events of others leave a switch as it was; the fabric counts lawful events; and one thread makes one
+//! It depends on `net_state` for the fabric and on `switch_core`, whose definitions say what a switch does with a
+//! clock event, a frame and a load. `specs/World` has the world and its step; `specs/Lawful` and `specs/Effects` of
+//! `net_state` have one line for each event.
+//!
+//! Its contract is its theorems. After any events the world keeps its invariant, and each switch is sound. If the
+//! history has not ended, some event is lawful next. The events that a turn of a worker or of the driver appends are
+//! lawful, and events of others do not change a switch. The fabric counts lawful events. One thread makes only one
 //! history, which is legal.
 #![tactic(auto)]
 

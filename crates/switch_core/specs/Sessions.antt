@@ -33,27 +33,27 @@ OfSender sessions port P =
 abbrev pub IsOutAt : Sessions → ℕ → ℕ → Type 0
 IsOutAt sessions port number = (1 ≤ number) × OfSender sessions port (λ kept. IsOut kept number)
 
--- `change` changes what is sent, and `number` is the answer for what it was before
+-- what is sent changes by `change`, and `number` is the `answer` for what it was before
 abbrev pub SendsBy : (Sending → Sending) → (Sending → Option ℕ) → Session → Session → Option ℕ → Type 0
 SendsBy change answer old new number =
     (sending : Sending) (receiving : Receiving) → IsSessionOf old sending receiving
     → IsSessionOf new (change sending) receiving × (number ≡ answer sending)
 
--- `change` changes what is received, and `value` is the answer for what it was before
+-- what is received changes by `change`, and `value` is the `answer` for what it was before
 abbrev pub ReceivesBy : {A : Type 0} → (Receiving → Receiving) → (Receiving → A) → Session → Session → A
     → Type 0
 ReceivesBy change answer old new value =
     (sending : Sending) (receiving : Receiving) → IsSessionOf old sending receiving
     → IsSessionOf new sending (change receiving) × (value ≡ answer receiving)
 
--- `change` changes what is sent at `port`, and `number` is the answer for what it was before
+-- what is sent at `port` changes by `change`, and `number` is the `answer` for what it was before
 abbrev pub Sends : ℕ → (Sending → Sending) → (Sending → Option ℕ) → Sessions → Sessions → Option ℕ → Type 0
 Sends port change answer old new number =
     (sendings : ℕ → Sending) (receivings : ℕ → Receiving) → AreSessions old sendings receivings
     → AreSessions new (at_port port (change (sendings port)) sendings) receivings
     × (number ≡ answer (sendings port))
 
--- `change` changes what is received at `port`, and the value returned is the answer for what it was before
+-- what is received at `port` changes by `change`, and the value returned is the `answer` for what it was before
 abbrev pub Receives : {A : Type 0} → ℕ → (Receiving → Receiving) → (Receiving → A) → Sessions → Sessions → A
     → Type 0
 Receives port change answer old new value =

@@ -59,7 +59,7 @@ pub record IsSoundBy (works carried : ℕ) (switch : SwitchOf) : Type 0 where
   pub near : (port number : ℕ) → last (switch.receivings port) + 8 < number
       → (switch.receivings port).held number ≡ None
   pub came : switch.joined ≡ true → length switch.log + all_held switch.receivings ≤ carried
-  -- at each port, at most one body was pushed, and four more for each body that was accepted
+  -- at each port, at most 1 + 4 n bodies were pushed, where n is the number of bodies that were accepted
   pub pushed : (port : ℕ) → length (switch.sendings port).pushed ≤ 1 + 4 * length switch.log
 
 -- the invariant of a switch after `works` clock events and frames, which can all have had a body

@@ -162,8 +162,8 @@ pub record Accepts (port : ℕ) (body : Body) (old new : Control) (before after 
       → after ≡ before ++ all_added switch.card port (in_turn body (switch.receivings port)) switch.log
   pub joined : is_some new.core ≡ true
 
--- a clock event came to `switch`, and `spent` says whether a change is due for which no epoch is left; the frames are
--- then to be dropped
+-- a clock event came to `switch`, and `spent` says whether a change is due for which no epoch is left; if one is, the
+-- frames are to be dropped
 pub record IsClocked (now : ℕ) (samples : List Sample) (switch : SwitchOf) (new : Control)
     (before after : List BytesOut) (spent : Bool) : Type 0 where
   pub spends : spent ≡ is_spent_by switch (sampled_by now samples switch)

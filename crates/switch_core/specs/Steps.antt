@@ -142,7 +142,8 @@ receives port number body switch =
       receivings = at_port port (received number body (switch.receivings port)) switch.receivings;
     })
 
--- the acknowledgement of all bodies that were accepted up to body `number`, or none if that is too far ahead
+-- the acknowledgement of all bodies accepted so far, including those accepted when body `number` came; none if that
+-- is too far ahead
 abbrev pub acks : ℕ → EndId → ℕ → Body → SwitchOf → List Sent
 acks port peer number body switch =
     if is_acknowledged (verdict number body (switch.receivings port))
@@ -249,11 +250,11 @@ all_again link [] switch = still switch
 all_again link (number ∷ numbers) switch =
     after (sends_again link number switch) (all_again link numbers (sends_again link number switch).switch)
 
--- the step that sends the bodies that are due again on a link, in ascending order of number
+-- the step that sends again, on a link, the bodies that are due, in ascending order of number
 abbrev pub resends_on : PeerAt → SwitchOf → Step
 resends_on link switch = all_again link (due switch.tick (switch.sendings link.port)) switch
 
--- the step that sends the bodies that are due again on these links
+-- the step that sends again, on each of these links, the bodies that are due
 abbrev pub all_resent : List PeerAt → SwitchOf → Step
 all_resent [] switch = still switch
 all_resent (link ∷ links) switch =

@@ -674,7 +674,7 @@ impl Control {
 
     /// Returns the table for the topology that the life has finished with, and takes its number from it.
     ///
-    /// A load must be due.
+    /// A load must be due, and the switch sound (`HasState`).
     ///
     /// # Errors
     /// `OutOfMemory` if an allocation fails. The switch is then unchanged.
