@@ -1,4 +1,4 @@
-//! library, library: one switch for C programs, as a static library.
+//! library: one switch for C programs, as a static library.
 //! Its exports are the calls of `switch_core`.
 //!
 //! It depends on the control program of one switch (`switch_core`), and on no simulated network. Its contract: C

@@ -1,4 +1,4 @@
-//! tests, tests: unit tests of parts, for what neither a contract nor the whole program shows.
+//! tests: unit tests of parts, for what neither a contract nor the whole program shows.
 //! They cover crates below the network: readers and writers that fail, a constant that a contract uses as it is,
 //! the largest frame in just enough blocks, and a call that the program does not make.
 //!

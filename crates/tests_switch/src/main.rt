@@ -1,4 +1,4 @@
-//! tests, tests: a program that reads what happens to a switch, and prints what the switch does.
+//! tests: a program that reads what happens to a switch, and prints what the switch does.
 //! Its input is on standard input, so that its output can be compared with an independent model. It handles each
 //! line before it looks at the next one. An invalid line ends the program with exit status 1; its number and a
 //! reason (`Fault`) are on standard error. If the input is not valid UTF-8, the program ends in the same way before
