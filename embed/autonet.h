@@ -1,6 +1,6 @@
 /* autonet.h: one proved switch in a C program.
  *
- * Link libswitch_c.a and the toolchain's liblibc_c.a; docs/EMBED.md says how they are built. The library
+ * Link libswitch_c.a and the toolchain's liblibc_c.a; docs/library/library.md says how they are built. The library
  * needs of C only malloc, realloc, free, memcpy, memmove and memset. It keeps nothing of its own: all
  * that a switch is stands behind its autonet_switch, so a program may hold as many as it likes.
  *
@@ -128,7 +128,7 @@ typedef struct {
 } autonet_frame_shown;
 
 /* Starts a switch: identifier `uid` below 2^48, `boot` from 1, an `epoch` (0 at first, then one that no
- * earlier life of this switch has passed; docs/EMBED.md says what for), the number `had` that it wishes
+ * earlier life of this switch has passed; docs/library/library.md says what for), the number `had` that it wishes
  * for, 1 to 126 (the `number` that it had, else 1), and whether its tables have all legal routes (`any`) or
  * the least ones alone. It takes memory, which autonet_end gives back. AUTONET_STARTED, AUTONET_ARGUMENT,
  * AUTONET_OUT_OF_MEMORY: nothing was started. */

@@ -1,9 +1,12 @@
-//! What all layers speak of: lives, ends of links, positions in a spanning tree, entries of a
-//! topology, the bodies that switches exchange and the frames that carry them, the states of ports,
-//! rows of tables and the events of a network, each within its range, and their orders.
+//! autonet, base: autonet's vocabulary.
 //!
-//! It stands on std alone. Its contract: contracts see each type as a number, a record or a list;
-//! the types keep the ranges; the orders are total; and a node has one place in a spanning tree.
+//! It has the types that all layers share, with their ranges and orders: lives, ends of links, positions in a spanning
+//! tree, entries of a topology, the bodies that switches exchange and the frames that carry them, the states of ports,
+//! rows of routing tables, and the events of a network.
+//!
+//! It depends on `common_values`, and exports its modules `items`, `memory` and `text` again. Its contract: contracts
+//! see each type as a number, a record or a list; the types keep the ranges; the orders are total; and a node has only
+//! one place in a spanning tree.
 #![tactic(auto)]
 
 pub mod body;

@@ -1,14 +1,14 @@
--- How a call ends: with a line on err, and a number.
+-- How a call ends: with a line on standard error, and an exit status.
 
 use Rattle.std.specs.Prelude.{◌≡◌, ◌≢◌, ◌⊎◌, ℕ, List, []}
 use Rattle.outside.specs.Told.{Seen, Gains, GainsFront, Failed}
 
--- the number of a call whose line was not written whole
+-- the exit status of a call whose line was not completely written
 abbrev pub write_fault : ℕ
 write_fault = 5
 
--- Err gained the line, and the answer is the number. Or err failed and gained a front of the line, and the answer
--- is the number of a write fault.
+-- Standard error was given `line`, and `answer` is `code`. Or it failed and was given a prefix of `line`, and `answer`
+-- is the exit status of a write error.
 abbrev pub IsLineTold : (old new : Seen) (code : ℕ) (line : List ℕ) (answer : ℕ) → Type 0
 IsLineTold old new code line answer =
     ((answer ≡ code) × Gains old new line)

@@ -8,10 +8,10 @@ ghost use Rattle.common_call.specs.Ended.{IsLineTold};
 use outside::all::{WriteFault, write_all};
 use outside::sink::Sink;
 
-/// The number of a call whose line was not written whole.
+/// The exit status of a call whose line was not completely written.
 pub const WRITE_FAULT: u8 = 5;
 
-// Writes parts of a line, in order. If a write fails, a front of them was written.
+// Writes parts of a line, in order. If a write fails, a prefix of them has been written.
 fn write_parts<E: Sink>(err: &mut E, parts: &[&[u8]]) -> Result<(), WriteFault>
     ensures all { OnOk result
         (Gains (E.seen err.old) (E.seen err.new) (flat_map (λ part. part.now) parts.now)) }
@@ -27,8 +27,9 @@ fn write_parts<E: Sink>(err: &mut E, parts: &[&[u8]]) -> Result<(), WriteFault>
     Ok(())
 }
 
-/// Writes the line of a call that ends with this number, given in parts, and answers the number; or that of a write
-/// fault, if the sink did not take the whole line. A call without a line has no parts.
+/// Writes a call's last line, given in `parts`, to `err`, and returns `code`.
+///
+/// Returns `WRITE_FAULT` if `err` did not take the whole line. A call without a line passes no parts.
 pub fn tell<E: Sink>(err: &mut E, code: u8, parts: &[&[u8]]) -> u8
     ensures { IsLineTold (E.seen err.old) (E.seen err.new) code (flat_map (λ part. part.now) parts.now) result }
 {

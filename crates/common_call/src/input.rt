@@ -1,4 +1,4 @@
-//! An input that is read whole.
+//! Input that is read whole.
 
 ghost use Rattle.std.specs.Prelude.{◌≡◌, ◌<◌, ◌≤◌, ◌+◌, ◌-◌, ◌^◌, ◌==◌, length, take, count_by, IfOk, IfErr};
 ghost use Rattle.common_call.specs.Inputs.{IsInput, IsUnread};
@@ -9,17 +9,17 @@ use outside::all::{ReadStop, read_all};
 use outside::source::Source;
 use std::alloc::Global;
 
-/// Why an input was not read.
+/// The reason why an input was not read.
 #[derive(Clone, Copy)]
 pub enum Unread {
     /// The source failed.
     Fault,
     /// The source has more bytes than the limit.
     TooLong {
-        /// The line of the first byte too many, from 1.
+        /// The number, from 1, of the line with the first byte over the limit.
         line: u32,
     },
-    /// No memory was found.
+    /// An allocation failed.
     OutOfMemory,
 }
 
@@ -33,8 +33,11 @@ fn line_over(bytes: &Bytes, limit: usize) -> u32
     line as u32
 }
 
-/// Reads the source to its end: its bytes, at most as many as the limit, or why there are none. After want of memory,
-/// and if there are more, at most one piece past the limit was read.
+/// Reads `source` to its end, and returns its bytes, at most `limit`. The caller must pass a `limit` below 2^32 - 1.
+///
+/// # Errors
+/// `Fault` if a read failed, with at most `limit` bytes read. `TooLong` if there are more than `limit` bytes.
+/// `OutOfMemory` if an allocation failed. After the last two, at most one piece more than `limit` was read.
 pub fn read_input<S: Source>(alloc: Global, source: &mut S, limit: usize) -> Result<Vec<u8>, Unread>
     requires { limit < 2 ^ 32 - 1 }
     ensures found { IfOk result (λ bytes. IsInput limit (λ input. input ≡ bytes.items)

@@ -1,8 +1,10 @@
-//! What the calls of programs have in common: their words, an input that is read whole, and how they end.
+//! floor, base: what calls of programs have in common.
 //!
-//! It stands on `outside` and on the lines of a text. Its contract: an input is all that its source gave, or there is
-//! one cause why it was not read; and the line with which a call ends is on err whole, or the call ends with the number
-//! of a write fault.
+//! These are their arguments, input files that are read whole, and how a program ends.
+//!
+//! It depends on `outside` and `common_lines`. Its contract: an input is everything that its source gave, or there is
+//! one reason why it was not read; and a call's last line is complete on standard error, or the call ends with the
+//! exit status of a write error.
 #![tactic(auto)]
 
 pub mod end;

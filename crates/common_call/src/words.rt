@@ -1,4 +1,4 @@
-//! The words of a call.
+//! The arguments of a call.
 
 use common_values::memory::OutOfMemory;
 use common_values::text::Word;
@@ -6,7 +6,10 @@ use std::env;
 use std::io::ErrorKind;
 use std::rt::Env;
 
-/// The words after the program's name. If they are no text they are taken for no words.
+/// Returns the arguments, or none at all if they are not valid UTF-8.
+///
+/// # Errors
+/// `OutOfMemory` if an allocation fails.
 pub fn words_of_call<R: Env + AllocGlobal>(rt: &R) -> Result<Vec<Word>, OutOfMemory> {
     let mut words = Vec::new(rt.alloc());
     let mut args = match env::args(rt) {

@@ -1,4 +1,4 @@
-//! The least cycle, along levels that fall to its start: guessed ones if they pass their checks, else exact ones.
+//! The least cycle, along levels that fall to its start: candidates if they pass their checks, otherwise exact levels.
 
 ghost use Rattle.std.specs.Prelude.{◌≡◌, ◌<◌, ◌≤◌, ◌⊎◌, ◌^◌, IfOk, IfSome, MatchOption, ℕ};
 ghost use Rattle.std.specs.Ordering.{nat_cmp};
@@ -108,8 +108,12 @@ fn cycle_from(alloc: Global, graph: &Graph, start: usize) -> Result<Option<Vec<u
     cycle_by(alloc, graph, &levels, start)
 }
 
-/// The least cycle, if there is one, by tiers that no step lowers. It searches once from each node
-/// that leads to its own tier, up to the least one on a cycle.
+/// Returns the least cycle of `graph`, if there is one. The caller must pass `tiers` that no step lowers.
+///
+/// It searches once from each node that leads to its own tier, up to the least node on a cycle.
+///
+/// # Errors
+/// `OutOfMemory` if an allocation fails.
 pub fn least_cycle(
     alloc: Global,
     graph: &Graph,

@@ -1,4 +1,4 @@
-//! A graph in rows of bits. A node leads only to nodes from its base on, at most 4,096 of them, so rows can be short.
+//! A graph as rows of bits. A node leads only to the 4,096 nodes from its base on, at most, so rows can be short.
 
 ghost use Rattle.std.specs.Prelude.{◌≡◌, ◌<◌, ◌≤◌, ◌+◌, ◌*◌, ◌^◌, ◌⊎◌, ◌↔◌, ℕ, length, slice_index, IfOk, IfSome};
 ghost use Rattle.std.specs.Prelude.{IsTrue, MatchOption, replicate};
@@ -10,9 +10,10 @@ use common_values::memory::OutOfMemory;
 use std::alloc::Global;
 use std::marker::Model;
 
-/// Nodes, which are numbers from 0 on, and which of them lead to which. Each node has a row of bits,
-/// of which bit 0 stands for the node that is its base. Contracts see how many words a row has, the
-/// bases, and the words of all rows.
+/// A directed graph whose nodes are numbers from 0 on.
+///
+/// Each node has a row of bits; bit 0 represents the node that is its base. Contracts see the number
+/// of 64-bit words of a row, the bases, and the words of all rows.
 #[derive(Drop)]
 pub struct Graph {
     wide: usize,
@@ -33,24 +34,23 @@ impl Model for Graph {
         × AreWithin (record { wide = d.wide; bases = d.bases.items; words = d.words.items }) };
 }
 
-/// A step.
+/// A step from a node to a node that it leads to.
 #[derive(Clone, Copy)]
 pub struct Step {
-    /// The node that leads ..
+    /// The node that the step leaves.
     pub node: usize,
-    /// .. to this one.
+    /// The node that the step reaches.
     pub next: usize,
 }
 
-/// A place in the row of a node, from which `Graph::advance` goes on. It keeps what is left of the
-/// word that it stands at.
+/// A position in the row of a node, where `Graph::advance` continues. It keeps the rest of its current word.
 #[derive(Clone, Copy)]
 pub struct Cursor {
-    // The least node that is still to come.
+    // The lowest node that is still to come.
     from: usize,
     // The number of the word in the row.
     part: usize,
-    // The node for which its bit 0 stands.
+    // The node that bit 0 of the word represents.
     first: usize,
     // Its bits that are still to come.
     rest: u64,
@@ -66,7 +66,12 @@ fn bits_from(word: u64, from: usize) -> u64
 }
 
 impl Graph {
-    /// As many nodes as there are bases, in rows of so many words, none of which leads anywhere.
+    /// Creates a graph with one node per base, rows of `wide` words, and no steps.
+    ///
+    /// The caller must pass a `wide` of at most 64 and fewer than 2^31 bases.
+    ///
+    /// # Errors
+    /// `OutOfMemory` if the allocation fails.
     pub fn none(alloc: Global, bases: Vec<u32>, wide: usize) -> Result<Graph, OutOfMemory>
         requires wide { wide ≤ 64 }
         requires few { length bases.items < 2 ^ 31 }
@@ -77,7 +82,7 @@ impl Graph {
         Ok(Graph { wide, bases, words })
     }
 
-    /// How many nodes there are: fewer than 2^31, and they lead to nodes alone.
+    /// Returns the number of nodes, fewer than 2^31. Nodes lead only to nodes.
     #[inline]
     pub fn count(&self) -> usize
         ensures count { result ≡ length self.now.bases }
@@ -87,7 +92,7 @@ impl Graph {
         self.bases.len()
     }
 
-    /// How many words a row has, at most 64.
+    /// Returns the number of words in a row, at most 64.
     #[inline]
     pub fn wide(&self) -> usize
         ensures wide { result ≡ self.now.wide }
@@ -96,7 +101,7 @@ impl Graph {
         self.wide
     }
 
-    /// The base of a node.
+    /// Returns the base of `node`. The caller must pass a node of the graph.
     #[inline]
     pub fn base(&self, node: usize) -> usize
         requires { node < length self.now.bases }
@@ -130,7 +135,7 @@ impl Graph {
         }
     }
 
-    /// The place in the row of a node at which the nodes from a number on are still to come.
+    /// Returns the position in the row of `node` where the nodes numbered `from` and above are still to come.
     #[inline]
     pub fn cursor(&self, node: usize, from: usize) -> Cursor
         ensures stands { StandsAt self.now node result }
@@ -153,8 +158,8 @@ impl Graph {
         }
     }
 
-    // Goes on to the next word with bits left, if the one that the cursor stands at has none. Answers
-    // whether there is one.
+    // Moves to the next word with bits left, if the current word of the cursor has none. Reports whether
+    // there is one.
     #[inline]
     fn find_bits(&self, node: usize, cursor: &mut Cursor) -> bool
         requires { StandsAt self.now node cursor.old }
@@ -172,7 +177,9 @@ impl Graph {
         true
     }
 
-    /// The next node to which one leads from the place of a cursor on, which comes past it.
+    /// Returns the next node that `node` leads to from `cursor` on, and moves `cursor` past it.
+    ///
+    /// The caller must pass a cursor of the same node and graph.
     #[inline]
     pub fn advance(&self, node: usize, cursor: &mut Cursor) -> Option<usize>
         requires { StandsAt self.now node cursor.old }
@@ -193,7 +200,7 @@ impl Graph {
         Some(next)
     }
 
-    /// The least node from a number on to which one leads.
+    /// Returns the lowest node, from the number `from` on, that `node` leads to.
     pub fn next(&self, node: usize, from: usize) -> Option<usize>
         ensures next { MatchOption result (HasNoNext self.now node from) (IsNext self.now node from) }
         ensures low { IfSome result (λ next. next < length self.now.bases) }
@@ -203,7 +210,7 @@ impl Graph {
         self.advance(node, &mut cursor)
     }
 
-    /// Whether a node leads to another.
+    /// Reports whether `node` leads to `other`.
     pub fn leads(&self, node: usize, other: usize) -> bool
         ensures { IsTrue result ↔ LeadsTo self.now node other }
     {
@@ -213,7 +220,9 @@ impl Graph {
         }
     }
 
-    /// Lets a node lead to the one that is so far from its base, and changes nothing else.
+    /// Adds the step from `node` to the node `offset` above its base, and changes nothing else.
+    ///
+    /// The caller must pass a node, and an offset that is within its row and reaches a node of the graph.
     #[inline]
     pub fn insert(&mut self, node: usize, offset: usize)
         requires node { node < length self.old.bases }

@@ -1,4 +1,4 @@
-//! What a verdict means, and that a graph has one. No function here has code.
+//! Theorems: what a verdict means, and that a graph has only one. No function here has code.
 
 ghost use Rattle.std.specs.Prelude.{◌≡◌, ℕ, List};
 ghost use Rattle.std.specs.Ordering.{nat_cmp};
@@ -6,12 +6,12 @@ ghost use Rattle.common_graph.specs.Graph.{Fall, GraphOf, LeadsTo};
 ghost use Rattle.common_graph.specs.Cycles.{HasNoCycle, IsLeastCycle};
 ghost use Rattle.common_graph.specs.Verdict.{Passes};
 
-/// Ranks suffice: if any numbers fall along each step, no steps lead round.
+/// States that ranks suffice: if some numbers fall along every step, no steps form a cycle.
 pub fn ranks_suffice()
     ensures { (graph : GraphOf) (ranks : List ℕ) → Fall graph ranks → HasNoCycle (LeadsTo graph) }
 {}
 
-/// A graph has one verdict: its ranks are one list, its least cycle is one list, and it has not both.
+/// States that a graph has one verdict: at most one list of ranks, at most one least cycle, and never both.
 pub fn one_answer()
     ensures ranks { (graph : GraphOf) (one other : List ℕ) → Passes graph one → Passes graph other → one ≡ other }
     ensures cycle { (graph : GraphOf) (one other : List ℕ)

@@ -1,5 +1,5 @@
-//! Guessed levels towards a start. A walk in breadth finds distances from it. Going back over the nodes that it
-//! reached lowers the levels of those on a shortest cycle.
+//! Candidate levels towards a start. A breadth-first search finds distances from the start. Then, in reverse order of
+//! discovery, the levels of nodes on a shortest cycle are lowered.
 
 ghost use Rattle.std.specs.Prelude.{◌<◌, ◌^◌};
 
@@ -111,10 +111,14 @@ fn put_levels(
     put(levels, start, 0);
 }
 
-/// Levels for a start: no step lowers the level by more than one, and the start has 0. Those nodes
-/// that are on a shortest cycle from it have the number of steps to it, and no others have so low a
-/// one in their place. No contract speaks of it: what is made of it is checked. It looks twice at
-/// each step from nodes that are nearer than the length.
+/// Returns candidate levels for `start`: the start has 0, and no step lowers the level by more than one.
+///
+/// A node on a shortest cycle from the start has the number of steps to it, and no other node has so low
+/// a level in its place. No contract says so, but the caller checks the result. It visits each step from
+/// nodes that are nearer than the length of that cycle twice. The caller must pass a `start` below 2^31.
+///
+/// # Errors
+/// `OutOfMemory` if an allocation fails.
 pub fn guess_levels(alloc: Global, graph: &Graph, start: usize) -> Result<Vec<u32>, OutOfMemory>
     requires { start < 2 ^ 31 }
 {

@@ -1,13 +1,15 @@
-//! Graphs of up to 2^31 nodes, a row of bits for each node, and their verdict: the rank of each node,
-//! which shows that no steps lead round, or the least cycle.
+//! floor, base: directed graphs, and a rank for each node or the least cycle.
 //!
-//! It stands on an_base. Its contract: `verdict_of` answers the ranks exactly if no steps lead
-//! round, and else the least cycle; and a graph has one verdict.
+//! A graph has fewer than 2^31 nodes and a row of bits for each. Its verdict is either a rank for each node,
+//! which shows that no steps form a cycle, or the least cycle.
 //!
-//! What is slow to find is guessed by code of which only safety is proved, checked by a proved pass over
-//! all steps, and found by a slow proved way if the check fails: ranks, tiers (a number for each node
-//! that no step lowers, so that a node on a cycle leads to one of its own tier), and levels (lower
-//! bounds of the numbers of steps to a start).
+//! It depends on `common_values`. Its contract: `verdict_of` returns the ranks if and only if no steps form a
+//! cycle, and otherwise the least cycle; and a graph has one verdict.
+//!
+//! Ranks, tiers and levels are slow to find. Heuristics, proved only to be safe, find candidates; a proved pass over
+//! all steps checks them; and if the check fails, a slow proved method finds them instead. Tiers are a number for each
+//! node that no step lowers, so a node on a cycle leads to one of its own tier. Levels are lower bounds of the number
+//! of steps to a start.
 #![tactic(auto)]
 
 pub mod bits;

@@ -1,4 +1,4 @@
-//! Guessed ranks, by walks in depth with a path on the heap. A node gets its rank after all to which it leads.
+//! Candidate ranks, by depth-first search with a path on the heap. A node gets its rank after all that it leads to.
 
 use crate::graph::Graph;
 use crate::table::{filled, put, value_of};
@@ -91,9 +91,13 @@ fn walk(
     Ok(true)
 }
 
-/// The ranks of all nodes, if no steps lead round, by walks in depth from all nodes; None if a
-/// step was found that leads back. No contract speaks of it: what is made of it is checked. It looks
-/// once or twice at each step.
+/// Returns the ranks of all nodes, or `None` if a step was found that closes a cycle.
+///
+/// No contract says so, but the caller checks the result. It visits each step once or twice, in
+/// depth-first searches from all nodes.
+///
+/// # Errors
+/// `OutOfMemory` if an allocation fails.
 pub fn guess_ranks(alloc: Global, graph: &Graph) -> Result<Option<Vec<u32>>, OutOfMemory> {
     let count = graph.count();
     let mut ranks = filled(alloc, count, FRESH)?;

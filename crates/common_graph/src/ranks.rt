@@ -1,4 +1,4 @@
-//! The checks of ranks, whoever made them: a guess of this crate, or a caller who claims them.
+//! The checks of ranks, whether a heuristic of this crate found them or a caller claims them.
 
 ghost use Rattle.std.specs.Prelude.{◌≡◌, ◌<◌, ◌↔◌, length, slice_get, IsTrue, MatchOption};
 ghost use Rattle.common_graph.specs.Graph.{Fall, FallFrom, IsFirstRise};
@@ -34,8 +34,10 @@ fn is_ranked(graph: &Graph, ranks: &[u32], node: usize) -> bool
     u64::from(own) == height
 }
 
-/// Whether these are the ranks of all nodes, in their order: of each one more than the greatest rank
-/// of those to which it leads, or 0. It looks once at each step.
+/// Reports whether `ranks` are the ranks of all nodes, in order.
+///
+/// The rank of a node is one more than the highest rank that it leads to, or 0 if it leads nowhere. It
+/// visits each step at most once.
 pub fn are_ranks(graph: &Graph, ranks: &[u32]) -> bool
     ensures { IsTrue result ↔ AreAllRanks graph.now ranks.now }
 {
@@ -58,9 +60,11 @@ fn rise_from(graph: &Graph, ranks: &[u32], node: usize) -> Option<usize>
     first_within(graph, ranks, node, value_of(ranks, node), u32::MAX)
 }
 
-/// The first step along which ranks do not fall, by the node from which it leads, then by the one to
-/// which; None if they fall along each step. If a list has no rank, it counts as 0. It looks
-/// once at each step.
+/// Returns the first step along which `ranks` do not fall, by the node that it leaves, then by the node
+/// that it reaches.
+///
+/// Returns `None` if they fall along every step. A missing rank counts as 0. It visits each step at most
+/// once.
 pub fn first_rise(graph: &Graph, ranks: &[u32]) -> Option<Step>
     ensures { MatchOption result (Fall graph.now ranks.now)
         (λ step. IsFirstRise graph.now ranks.now step.node step.next) }

@@ -1,4 +1,4 @@
-//! The slow way to ranks, for when a guess does not pass its check.
+//! The slow method of finding ranks, for when a candidate does not pass its check.
 
 ghost use Rattle.std.specs.Prelude.{IfOk};
 ghost use Rattle.common_graph.specs.Cycles.{HasNoCycle};
@@ -11,8 +11,13 @@ use crate::table::{filled, value_of};
 use common_values::memory::OutOfMemory;
 use std::alloc::Global;
 
-/// The ranks of all nodes of a graph in which no steps lead round: each that is too low is raised
-/// until none is. It can take as many passes over all steps as there are nodes, and more.
+/// Returns the ranks of all nodes by raising ranks that are too low until none is.
+///
+/// The caller must pass a graph in which no steps form a cycle. It can take as many passes over all
+/// steps as there are nodes, and more.
+///
+/// # Errors
+/// `OutOfMemory` if the allocation fails.
 pub fn exact_ranks(alloc: Global, graph: &Graph) -> Result<Vec<u32>, OutOfMemory>
     requires { HasNoCycle (LeadsTo graph.now) }
     ensures { IfOk result (λ ranks. AreAllRanks graph.now ranks.items) }

@@ -1,4 +1,4 @@
-//! Numbers of nodes, as ranks, tiers and levels are, and searches for steps by the numbers at their ends.
+//! Tables with a number for each node (a rank, tier or level), and searches for steps by the numbers at their ends.
 
 ghost use Rattle.std.specs.Prelude.{◌≡◌, ◌<◌, ◌↔◌, ◌^◌, IsTrue, IfOk, IfSome, replicate, MatchOption};
 ghost use Rattle.common_graph.specs.Graph.{value_at};
@@ -8,14 +8,17 @@ use crate::graph::{Graph, Step};
 use common_values::memory::OutOfMemory;
 use std::alloc::Global;
 
-/// A table with one value for so many nodes.
+/// Creates a table with `value` for each of `count` nodes.
+///
+/// # Errors
+/// `OutOfMemory` if the allocation fails.
 pub fn filled(alloc: Global, count: usize, value: u32) -> Result<Vec<u32>, OutOfMemory>
     ensures { IfOk result (λ table. table.items ≡ replicate count value) }
 {
     Ok(vec![in alloc; value; count]?)
 }
 
-/// What a table has for a node, 0 if it has nothing.
+/// Returns the value for `node`, or 0 if `table` has none.
 #[inline]
 pub fn value_of(table: &[u32], node: usize) -> u32
     ensures { result ≡ value_at table.now node }
@@ -23,7 +26,7 @@ pub fn value_of(table: &[u32], node: usize) -> u32
     table.get(node).copied().unwrap_or(0)
 }
 
-/// Puts a value into a table, if it has a place for the node.
+/// Sets the value for `node`, if `table` has an item for it.
 #[inline]
 pub fn put(table: &mut [u32], node: usize, value: u32) {
     if let Some(place) = table.get_mut(node) {
@@ -31,7 +34,7 @@ pub fn put(table: &mut [u32], node: usize, value: u32) {
     }
 }
 
-/// The least node to which one leads of those with a value from a least to a greatest one.
+/// Returns the lowest node that `node` leads to and whose value is from `least` to `most`.
 #[inline]
 pub fn first_within(
     graph: &Graph,
@@ -54,7 +57,7 @@ pub fn first_within(
     None
 }
 
-// The first step from a node that lowers the value by more than so much.
+// The first step from the node that lowers the value by more than `fall`.
 #[inline]
 fn falls_from(graph: &Graph, table: &[u32], fall: u32, node: usize) -> Option<usize>
     ensures { MatchOption result (HoldsFrom graph.now table.now fall node) (FallsTo graph.now table.now fall node) }
@@ -66,7 +69,7 @@ fn falls_from(graph: &Graph, table: &[u32], fall: u32, node: usize) -> Option<us
     first_within(graph, table, node, 0, own - fall - 1)
 }
 
-/// The first step that lowers the value of a table by more than so much. It looks once at each step.
+/// Returns the first step that lowers the value by more than `fall`. It visits each step at most once.
 pub fn first_fall(graph: &Graph, table: &[u32], fall: u32) -> Option<Step>
     ensures { MatchOption result (Holds graph.now table.now fall)
         (λ step. FallsTo graph.now table.now fall step.node step.next) }
@@ -79,7 +82,7 @@ pub fn first_fall(graph: &Graph, table: &[u32], fall: u32) -> Option<Step>
     None
 }
 
-/// Whether a node leads to one of the same value.
+/// Reports whether `node` leads to a node of the same value.
 pub fn has_peer(graph: &Graph, table: &[u32], node: usize) -> bool
     ensures { IsTrue result ↔ HasPeer graph.now table.now node }
 {

@@ -1,4 +1,4 @@
-//! Guessed tiers, from the greatest down: a component is left after all to which it leads, so no step lowers one.
+//! Candidate tiers, from the highest down: a component gets its tier after all that it leads to, so no step lowers one.
 
 ghost use Rattle.std.specs.Prelude.{◌<◌, ◌^◌, IfSome};
 
@@ -112,9 +112,14 @@ impl Depths {
     }
 }
 
-/// A tier for each node, which no step lowers: nodes that lead to one another have one, and no others
-/// have. They are the strongly connected components, by Tarjan's walks in depth. No contract speaks of
-/// it: what is made of it is checked. It looks once or twice at each step.
+/// Returns a candidate tier for each node: no step lowers the tier, and each strongly connected component
+/// has its own.
+///
+/// It uses Tarjan's algorithm and visits each step once or twice. No contract says so, but the caller
+/// checks the result.
+///
+/// # Errors
+/// `OutOfMemory` if an allocation fails.
 pub fn guess_tiers(alloc: Global, graph: &Graph) -> Result<Vec<u32>, OutOfMemory> {
     let count = graph.count();
     let mut depths = Depths {

@@ -1,4 +1,4 @@
-//! The verdict on a graph: a guess, its check, and the slow way only if the check fails.
+//! The verdict on a graph: a candidate, its check, and the slow method only if the check fails.
 
 ghost use Rattle.std.specs.Prelude.{◌≡◌, IfOk, IfSome};
 ghost use Rattle.common_graph.specs.Search.{Holds};
@@ -14,18 +14,19 @@ use crate::tier_walk::guess_tiers;
 use common_values::memory::OutOfMemory;
 use std::alloc::Global;
 
-/// Whether some steps of a graph lead round.
+/// The ranks of a graph, or its least cycle.
 #[derive(Drop)]
 pub enum Verdict {
-    /// None do. Each node has a rank: 0 if it leads nowhere, else one more than the greatest of
-    /// those to which it leads.
+    /// No steps form a cycle. The rank of a node is 0 if it leads nowhere, otherwise one more than the
+    /// highest rank that it leads to.
     Ranks {
-        /// The ranks of the nodes, in their order.
+        /// The ranks of the nodes, in order.
         ranks: Vec<u32>,
     },
-    /// The least cycle: from the least node on any, a shortest, and of these the least as a list.
+    /// Some steps form a cycle. The least cycle starts at the lowest node on any cycle; it is one of the
+    /// shortest from there, and of these the least as a list.
     Cycle {
-        /// Its nodes, of which each leads to the next, and the last to the first.
+        /// The nodes of the cycle: each leads to the next, and the last to the first.
         nodes: Vec<u32>,
     },
 }
@@ -54,8 +55,13 @@ fn sound_tiers(alloc: Global, graph: &Graph) -> Result<Vec<u32>, OutOfMemory>
     Ok(tiers)
 }
 
-/// The verdict on a graph. As the code is written, and by no clause, it looks two or three times at
-/// each step if none lead round, and else some six times.
+/// Returns the verdict on `graph`.
+///
+/// By design, not proved, it visits each step two or three times if no steps form a cycle, and otherwise
+/// about six times.
+///
+/// # Errors
+/// `OutOfMemory` if an allocation fails.
 pub fn verdict_of(alloc: Global, graph: &Graph) -> Result<Verdict, OutOfMemory>
     ensures { IfOk result (IsVerdict graph.now) }
 {

@@ -14,7 +14,7 @@ use Rattle.std.proofs.lemmas.List.Elements.{All-head, All-tail, All-nil, All-con
 use Rattle.std.proofs.lemmas.List.Folds.{list_all-append}
 use Rattle.std.proofs.lemmas.List.Splits.{slice_split_none, slice_split_at}
 use Rattle.common_lines.specs.Faults.{unless}
-use Rattle.common_lines.specs.Words.{is_name_byte, IsName, is_number, is_number_in, number_value, is_uid, uid_value, hex_text, hex_glyph}
+use Rattle.common_lines.specs.Words.{is_number, is_number_in, number_value, hex_text, hex_glyph}
 use Rattle.common_lines.specs.Lines.{lines_of, words_of, parts_of, is_blank, is_line_byte, lines_text}
 use Rattle.common_lines.specs.Grammar.{bytes_cause_by}
 use Rattle.common_lines.proofs.WordLemmas.{own}

@@ -5,20 +5,20 @@ use Rattle.std.specs.Str.Lines.{lines}
 
 -- The lines of a text, and the words of a line.
 
--- the lines of a text: each ends with a line feed (10), before which one carriage return (13) is
--- dropped; bytes after the last line feed are a line
+-- the lines of a text: each ends with a line feed (10), before which one carriage return (13) is dropped; bytes after
+-- the last line feed are a line
 unfoldable pub lines_of : List ℕ → List (List ℕ)
 lines_of bytes = lines bytes
 
--- a byte that may stand in a line: a tab (9), or 32 to 126
+-- whether a byte is allowed in a line: a tab (9), or 32 to 126
 abbrev pub is_line_byte : ℕ → Bool
 is_line_byte byte = (byte == 9) || (nat_le 32 byte && nat_le byte 126)
 
--- a space (32) or a tab (9)
+-- whether a byte is a space (32) or a tab (9)
 abbrev pub is_blank : ℕ → Bool
 is_blank byte = (byte == 32) || (byte == 9)
 
--- what stands before the first `#` (35)
+-- the part of a line before the first `#` (35)
 abbrev pub without_comment : List ℕ → List ℕ
 without_comment line = before_first (λ byte. byte == 35) line
 
@@ -30,18 +30,18 @@ parts_of line = filter (λ word. not (length word == 0)) (slice_split is_blank l
 unfoldable pub words_of : List ℕ → List (List ℕ)
 words_of line = parts_of (without_comment line)
 
--- the words of each of the lines that have some
+-- the words of each line that has words
 abbrev pub with_words : List (List ℕ) → List (List (List ℕ))
 with_words lines = filter (λ words. not (length words == 0)) (map words_of lines)
 
--- a line of words: they are joined by one space each, and a line feed follows
+-- the text of a line of `words`: joined by single spaces and followed by a line feed
 abbrev pub line_text : List (List ℕ) → List ℕ
 line_text words = join_with_byte 32 words ++ 10 ∷ []
 
--- lines of words, one after another
+-- the text of a list of lines, one after another
 abbrev pub lines_text : List (List (List ℕ)) → List ℕ
 lines_text = flat_map line_text
 
--- the text of lines of forms, one after another
+-- the text of the lines of `forms`, one after another
 abbrev pub forms_text_by : {Form : Type 0} → (Form → List (List ℕ)) → List Form → List ℕ
 forms_text_by words_of_form forms = lines_text (map words_of_form forms)

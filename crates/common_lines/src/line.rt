@@ -9,11 +9,12 @@ use common_values::memory::OutOfMemory;
 use memchr::memchr;
 use std::alloc::Global;
 
-/// The most bytes of a line, without what ends it.
+/// The maximum number of bytes of a line without its line ending.
 pub const MOST_LINE: usize = 200;
 
-/// The first line of the bytes, without what ends it, and the bytes after that. There is none if
-/// there are no bytes.
+/// Returns the first line of `bytes` without its line ending, and the bytes after it.
+///
+/// Returns `None` if `bytes` is empty.
 pub fn first_line(bytes: &[u8]) -> Option<(&[u8], &[u8])>
     ensures some { IfSome result (λ r. lines_of bytes.now ≡ r.0.now ∷ lines_of r.1.now) }
     ensures less { IfSome result (λ r. length r.1.now < length bytes.now) }
@@ -28,14 +29,14 @@ pub fn first_line(bytes: &[u8]) -> Option<(&[u8], &[u8])>
     }
 }
 
-/// Where a byte stands first, if it stands in the bytes.
+/// Returns the first index of `byte` in `bytes`, if it is there.
 pub fn first_of(bytes: &[u8], byte: u8) -> Option<usize>
     ensures { result ≡ position (λ c. c == byte) bytes.now }
 {
     bytes.iter().position(|c| *c == byte)
 }
 
-// The same, if it stands far off or nowhere: it looks at many bytes at a time.
+// As `first_of`, but faster if the byte is far off or absent: it checks many bytes at a time.
 fn first_far(bytes: &[u8], byte: u8) -> Option<usize>
     ensures { result ≡ position (λ c. c == byte) bytes.now }
 {
@@ -52,8 +53,9 @@ fn without_return(bytes: &[u8]) -> &[u8]
     }
 }
 
-/// Whether each byte may stand in a line: a tab, or 32 to 126. It looks at all of them, with no branch,
-/// since they mostly may.
+/// Reports whether every byte of `line` is allowed in a line: a tab, or 32 to 126.
+///
+/// It checks all bytes without a branch, since nearly all lines pass.
 pub fn are_line_bytes(line: &[u8]) -> bool
     ensures { result ≡ list_all is_line_byte line.now }
 {
@@ -70,14 +72,17 @@ fn is_line_byte(c: u8) -> bool
     (c == b'\t') | (b' '..=b'~').contains(&c)
 }
 
-/// The words of a line: the parts between its spaces and tabs, up to a `#`, that are not empty.
+/// Returns the words of `line`: the parts between its spaces and tabs, up to a `#`, that are not empty.
+///
+/// # Errors
+/// `OutOfMemory` if an allocation fails.
 pub fn words(alloc: Global, line: &[u8]) -> Result<Vec<&[u8]>, OutOfMemory>
     ensures { IfOk result (λ v. map (λ w. w.now) v.items ≡ words_of line.now) }
 {
     parts(alloc, before_comment(line))
 }
 
-// What stands before the first `#`.
+// The part of the line before the first `#`.
 fn before_comment(line: &[u8]) -> &[u8]
     ensures { result.now ≡ without_comment line.now }
 {
@@ -104,7 +109,9 @@ fn is_blank(c: u8) -> bool
     c == b' ' || c == b'\t'
 }
 
-/// The number, from 1, of the line in which a byte stands, or would stand after the last.
+/// Returns the number, from 1, of the line of the byte at `place`, or of a byte after the last.
+///
+/// The caller must pass a `place` of at most the number of `bytes`.
 pub fn line_of(bytes: &[u8], place: usize) -> usize
     requires place { place ≤ length bytes.now }
     ensures { result ≡ 1 + count_by (λ c. c == 10) (take place bytes.now) }

@@ -1,4 +1,4 @@
-//! The spelling of lines and numbers.
+//! Lines and numbers as text.
 
 ghost use Rattle.std.specs.Prelude.{if◌then◌else◌, nat_lt, ◌≡◌, ◌<◌, ◌++◌, [], ◌∷◌, map, OnOk, IfOk};
 ghost use Rattle.std.specs.Fmt.{decimal};
@@ -9,8 +9,10 @@ use common_values::memory::OutOfMemory;
 use common_values::text::push_decimal;
 use std::alloc::{AllocError, Global};
 
-/// Appends a line of words: they are joined by one space each, and a line feed follows. If no memory
-/// is found nothing is said of the text.
+/// Appends a line of `words`, joined by single spaces and followed by a line feed.
+///
+/// # Errors
+/// `OutOfMemory` if an allocation fails. The contract then says nothing about `text`.
 pub fn push_line(text: &mut Vec<u8>, words: &[&[u8]]) -> Result<(), OutOfMemory>
     ensures { OnOk result
         (text.new.items ≡ text.old.items ++ line_text (map (λ w. w.now) words.now)) }
@@ -23,7 +25,7 @@ pub fn push_line(text: &mut Vec<u8>, words: &[&[u8]]) -> Result<(), OutOfMemory>
     Ok(())
 }
 
-// Appends a space if words stand before this place.
+// Appends a space if `place` is not that of the first word.
 fn push_space(text: &mut Vec<u8>, place: usize) -> Result<(), OutOfMemory>
     ensures { OnOk result (text.new.items ≡ text.old.items ++ (if nat_lt 0 place then 32 ∷ [] else [])) }
 {
@@ -33,7 +35,10 @@ fn push_space(text: &mut Vec<u8>, place: usize) -> Result<(), OutOfMemory>
     Ok(())
 }
 
-/// A number in decimal.
+/// Returns `number` in decimal.
+///
+/// # Errors
+/// `OutOfMemory` if an allocation fails.
 pub fn decimal(alloc: Global, number: u64) -> Result<Vec<u8>, OutOfMemory>
     ensures { IfOk result (λ text. text.items ≡ decimal number) }
 {
@@ -42,8 +47,10 @@ pub fn decimal(alloc: Global, number: u64) -> Result<Vec<u8>, OutOfMemory>
     Ok(text)
 }
 
-/// Appends the last so many hexadecimal digits of a number. If no memory is found nothing is said of the
-/// text.
+/// Appends the last `digits` hexadecimal digits of `number`.
+///
+/// # Errors
+/// `AllocError` if an allocation fails. The contract then says nothing about `text`.
 pub fn push_hex(text: &mut Vec<u8>, digits: u8, number: u64) -> Result<(), AllocError>
     ensures { OnOk result (text.new.items ≡ text.old.items ++ hex_text digits number) }
 {
@@ -54,7 +61,7 @@ pub fn push_hex(text: &mut Vec<u8>, digits: u8, number: u64) -> Result<(), Alloc
     Ok(())
 }
 
-/// The hexadecimal digit of a number below 16.
+/// Returns the hexadecimal digit for `digit`. The caller must pass a number below 16.
 pub fn hex_glyph(digit: u8) -> u8
     requires { digit < 16 }
     ensures { result ≡ hex_glyph digit }

@@ -1,4 +1,4 @@
-//! Why a text is not read on, and why it is refused.
+//! The reasons why reading a text stops, and why a text is rejected.
 
 ghost use Rattle.std.specs.Prelude.{◌≡◌};
 ghost use Rattle.common_lines.specs.declared.stop.Stop.TheVariants as stop;
@@ -7,26 +7,26 @@ ghost use Rattle.common_lines.specs.Stops.{refusal_at};
 
 use common_values::memory::OutOfMemory;
 
-/// Why a line adds nothing.
+/// The reason why a line adds nothing.
 #[derive(Clone, Copy, Debug, PartialEq, Eq)]
 pub enum Stop<Cause> {
-    /// It is faulty.
+    /// The line has this error.
     Fault(Cause),
-    /// No memory was found. It says nothing about the line.
+    /// An allocation failed. It says nothing about the line.
     OutOfMemory,
 }
 
-/// Why bytes were not read.
+/// The reason why bytes were not read.
 #[derive(Clone, Copy, Debug, PartialEq, Eq)]
 pub enum Refusal<Cause> {
-    /// The bytes are no text of the kind that was wanted.
+    /// The bytes are not a text of the expected kind.
     Fault {
-        /// The first faulty line, from 1.
+        /// The number, from 1, of the first line with an error.
         line: u32,
-        /// The first cause in that line.
+        /// The first error in that line.
         cause: Cause,
     },
-    /// No memory was found. It says nothing about the bytes.
+    /// An allocation failed. It says nothing about the bytes.
     OutOfMemory,
 }
 
@@ -47,7 +47,7 @@ impl<Cause> From<OutOfMemory> for Refusal<Cause> {
 }
 
 impl<Cause> Stop<Cause> {
-    /// The refusal of a text that was stopped at this line.
+    /// Returns the reason for rejecting a text that stopped at `line`.
     pub fn at(self, line: u32) -> Refusal<Cause>
         ensures { result ≡ refusal_at line self }
     {

@@ -1,4 +1,4 @@
-//! The words of which lines are made, and those that are numbers.
+//! The words of lines, and those that are numbers.
 
 ghost use Rattle.std.specs.Prelude.{◌≡◌, ◌+◌, ◌-◌, ◌*◌, ◌≤◌, ◌^◌, true, false, IfSome, MatchOption};
 ghost use Rattle.std.specs.List.{list_all};
@@ -6,14 +6,14 @@ ghost use Rattle.std.specs.Str.{bytes_eq};
 ghost use Rattle.std.specs.Char.{is_ascii_digit};
 ghost use Rattle.common_lines.specs.Words.{is_number, is_number_in, number_value};
 
-/// Whether a word is this one.
+/// Reports whether `word` is `text`.
 pub fn is(word: &[u8], text: &str) -> bool
     ensures { result ≡ bytes_eq word.now text.now }
 {
     word == text.as_bytes()
 }
 
-/// Whether a word is a number: digits, of which only a lone `0` begins with 0.
+/// Reports whether `word` is a number: digits without a leading 0, or `0` itself.
 pub fn is_number(word: &[u8]) -> bool
     ensures { result ≡ is_number word.now }
 {
@@ -29,7 +29,7 @@ fn are_digits(bytes: &[u8]) -> bool
     bytes.iter().all(|c| c.is_ascii_digit())
 }
 
-/// What a number says, if that is below 2^64.
+/// Returns the value of `word` in decimal if it is below 2^64. The caller must pass only digits.
 #[tactic(auto, unfolding(crate::specs::Words::number_value))]
 pub fn number_of(word: &[u8]) -> Option<u64>
     requires digits { list_all is_ascii_digit word.now ≡ true }
@@ -43,7 +43,7 @@ pub fn number_of(word: &[u8]) -> Option<u64>
     Some(number)
 }
 
-/// The number that a word says, if it is one from `least` to `most`.
+/// Returns the value of `word` if it is a number from `least` to `most`.
 pub fn number_between(word: &[u8], least: u64, most: u64) -> Option<u64>
     ensures number { MatchOption result (is_number_in least most word.now ≡ false)
         (λ n. (is_number_in least most word.now ≡ true) × (n ≡ number_value word.now)) }
@@ -58,7 +58,7 @@ pub fn number_between(word: &[u8], least: u64, most: u64) -> Option<u64>
     }
 }
 
-// What the digits of a number say with one more, if that is below 2^64.
+// The value of the digits of `number` followed by `digit`, if it is below 2^64.
 fn with_digit(number: u64, digit: u8) -> Option<u64>
     requires least { 48 ≤ digit }
     requires most { digit ≤ 57 }

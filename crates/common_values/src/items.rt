@@ -1,4 +1,4 @@
-//! A vector without its capacity: contracts see its items alone.
+//! A vector without its capacity: contracts see only its items.
 
 ghost use Rattle.std.specs.Prelude.{◌≡◌, ◌==◌, ◌∷◌, ◌++◌, [], length, OnOk, OnErr};
 
@@ -6,7 +6,7 @@ use crate::memory::OutOfMemory;
 use std::alloc::Global;
 use std::marker::Model;
 
-/// Items in an order, on the heap, which contracts see as a list.
+/// Items in order, on the heap. Contracts see them as a list.
 #[derive(Debug, Drop)]
 pub struct Items<T> {
     items: Vec<T>,
@@ -21,7 +21,7 @@ impl<T> Model for Items<T> {
 }
 
 impl<T> Items<T> {
-    /// No items, without taking memory. The allocator is kept for those that come.
+    /// Creates an empty vector without allocating. Items that are added later are allocated by `alloc`.
     pub fn new(alloc: Global) -> Self
         ensures { result ≡ [] }
     {
@@ -30,35 +30,35 @@ impl<T> Items<T> {
         }
     }
 
-    /// The items of a vector, without taking memory.
+    /// Wraps `items` without allocating.
     pub fn of(items: Vec<T>) -> Self
         ensures { result ≡ items.items }
     {
         Items { items }
     }
 
-    /// How many items there are.
+    /// Returns the number of items.
     pub fn len(&self) -> usize
         ensures { result ≡ length self.now }
     {
         self.items.len()
     }
 
-    /// Whether there are no items.
+    /// Reports whether there are no items.
     pub fn is_empty(&self) -> bool
         ensures { result ≡ (length self.now == 0) }
     {
         self.items.is_empty()
     }
 
-    /// The items in their order.
+    /// Returns the items in order.
     pub fn as_slice(&self) -> &[T]
         ensures { result.now ≡ self.now }
     {
         &self.items
     }
 
-    /// The items as a vector, without taking memory.
+    /// Returns the items as a vector without allocating.
     pub fn into_vec(self) -> Vec<T>
         ensures { result.items ≡ self }
     {
@@ -67,7 +67,10 @@ impl<T> Items<T> {
 }
 
 impl<T: Drop> Items<T> {
-    /// Adds an item at the end. After want of memory the items are as they were.
+    /// Adds `item` at the end.
+    ///
+    /// # Errors
+    /// `OutOfMemory` if the allocation fails. The items are then unchanged.
     pub fn push(&mut self, item: T) -> Result<(), OutOfMemory>
         ensures ok { OnOk result (self.new ≡ self.old ++ item ∷ []) }
         ensures err { OnErr result (self.new ≡ self.old) }

@@ -1,10 +1,12 @@
-//! floor, base: what all crates need beside std: the error of out of memory, byte strings, vectors without spare capacity,
-//! decimal numbers; and lemmas on lists, ranges, orders and pigeonholes.
+//! floor, base: what all crates need in addition to std.
 //!
-//! It depends on std only. Its contract: contracts see a text as the list of its bytes.
+//! It has the error of a failed allocation, byte strings, vectors whose capacity contracts do not see, and decimal
+//! numbers; and lemmas on lists, ranges, orders and pigeonholes.
 //!
-//! No lemma is added here for one user: it goes into the lowest crate that needs it, for autonet into `an_base`. A change
-//! here proves all other crates anew.
+//! It depends only on std. Its contract: contracts see a text as the list of its bytes.
+//!
+//! Add no lemma here for a single user: put it into the lowest crate that needs it, for autonet into `an_base`. After
+//! a change here every other crate is proved again.
 #![tactic(auto)]
 
 pub mod items;

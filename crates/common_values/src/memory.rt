@@ -1,8 +1,8 @@
-//! The one error of want of memory, into which both of std's turn by `?`.
+//! The one error of a failed allocation. `?` converts both of std's into it.
 
 use std::alloc::{AllocError, AllocFailed};
 
-/// No memory was found. It may be the answer of any call that takes memory, whatever its arguments.
+/// An allocation failed. Every call that allocates can return this error, whatever its arguments.
 #[derive(Clone, Copy, Debug, PartialEq, Eq)]
 pub struct OutOfMemory;
 

@@ -1,4 +1,4 @@
-//! What texts are made of: bytes, words, and numbers in decimal.
+//! The parts of texts: bytes, words, and decimal numbers.
 
 ghost use Rattle.std.specs.Prelude.{◌≡◌, ◌++◌, IfOk, OnOk, OnErr};
 ghost use Rattle.std.specs.Fmt.{decimal};
@@ -8,8 +8,11 @@ use crate::memory::OutOfMemory;
 use std::alloc::{AllocError, Global};
 use std::marker::Model;
 
-/// Appends a number in decimal. After want of memory the text is as it was. The error is that of
-/// std, so that `?` serves callers with either error.
+/// Appends `number` in decimal to `text`.
+///
+/// # Errors
+/// `AllocError` of std if an allocation fails; `?` converts it into `OutOfMemory`. `text` is then
+/// unchanged.
 pub fn push_decimal(alloc: Global, text: &mut Vec<u8>, number: u64) -> Result<(), AllocError>
     ensures ok { OnOk result (text.new.items ≡ text.old.items ++ decimal number) }
     ensures err { OnErr result (text.new.items ≡ text.old.items) }
@@ -36,14 +39,17 @@ impl Model for Word {
 }
 
 impl Word {
-    /// The word of these bytes, without taking memory.
+    /// Wraps `bytes` without allocating.
     pub fn new(bytes: Vec<u8>) -> Self
         ensures { result ≡ bytes.items }
     {
         Word { bytes }
     }
 
-    /// A word that is a copy of the bytes.
+    /// Copies `bytes` into a new word.
+    ///
+    /// # Errors
+    /// `OutOfMemory` if the allocation fails.
     pub fn of(alloc: Global, bytes: &[u8]) -> Result<Self, OutOfMemory>
         ensures { IfOk result (λ word. word ≡ bytes.now) }
     {
@@ -52,14 +58,14 @@ impl Word {
         })
     }
 
-    /// The bytes in order.
+    /// Returns the bytes in order.
     pub fn as_bytes(&self) -> &[u8]
         ensures { result.now ≡ self.now }
     {
         &self.bytes
     }
 
-    /// The bytes as a vector, without taking memory.
+    /// Returns the bytes as a vector without allocating.
     pub fn into_vec(self) -> Vec<u8>
         ensures { result.items ≡ self }
     {

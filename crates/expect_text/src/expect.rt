@@ -1,4 +1,4 @@
-//! What is expected of a script.
+//! Prints what a script's switches should agree on.
 
 ghost use Rattle.std.specs.Prelude.{◌≡◌, ◌≤◌, ◌++◌, List, All, length, map, IfOk, OnOk};
 ghost use Rattle.std.specs.List.{zip};
@@ -93,7 +93,7 @@ fn push_numbers(
     Ok(())
 }
 
-// Appends the lines of the tables of the members, from what these share.
+// Appends the lines of the tables of the members, which share this graph, these numbers and this routing.
 fn push_shared(
     lives: &Lives,
     text: &mut Vec<u8>,
@@ -189,11 +189,16 @@ fn text_of(lives: &Lives, forest: &[Entries], any: bool) -> Result<Vec<u8>, OutO
     Ok(text)
 }
 
-/// What is expected of the script's network with all links up: for each component, by rising root,
-/// its root and how many members it has; for each member by rising life its level and, below the
-/// root, its parent and its port to it; the number of each member; for each member and each entry,
-/// 0 and the ports with a link, the row with the exits to each other member by rising number; last
-/// `end`. Each line ends in a line feed.
+/// Returns what the switches of the script's network should agree on, with all links up.
+///
+/// For each component, in ascending order of its root, the lines are: its root and the number of its
+/// members; for each member, in ascending order of life, its level and, below the root, its parent and
+/// its port to the parent; the number of each member; for each member and each entry, 0 and the ports
+/// with a link, the row with the exits to each other member, in ascending order of number. The last
+/// line is `end`. Each line ends in a line feed.
+///
+/// # Errors
+/// `OutOfMemory` if an allocation fails.
 pub fn expect(alloc: Global, script: &Script) -> Result<Vec<u8>, OutOfMemory>
     ensures { IfOk result (λ text. IsExpectOf script.now text.items) }
 {

@@ -1,7 +1,7 @@
-//! The program: it reads its words and makes the one call of `fabric_commands`, over the files that they name and the
-//! standard streams.
+//! fabric, commands: the program `fabric`. It reads its arguments and makes the one call of `fabric_commands`, with the
+//! files that they name and the standard streams.
 //!
-//! It has no contract of its own: what it prints, and its status, are those of the call.
+//! It has no contract of its own: its output and its exit status are those of the call.
 #![tactic(auto)]
 
 use common_call::words::words_of_call;

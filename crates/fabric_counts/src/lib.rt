@@ -1,9 +1,9 @@
-//! How many routes of a traffic there are, how many arrive, and how many are lost by each cause.
+//! fabric, judge: counts of the routes of a traffic: how many there are, how many arrive, and how many are lost, by
+//! reason.
 //!
-//! It stands on `an_base`, `fabric_model`, `fabric_tables` and `fabric_routes`. Its one contract: `count::count_routes`
-//! answers just the counts of `specs/Counts`, with the greatest number of switches that a route goes through
-//! which arrives, and of each cause the least route that is lost by it and where. Its law: each route of a
-//! traffic ends in one way.
+//! The crate depends on `fabric_model`, `fabric_tables` and `fabric_routes`. Its one contract: `count::count_routes`
+//! returns the counts of `specs/Counts`, the highest number of switches on a route that arrives, and for each reason
+//! the least route that is lost for it, and where. Its theorem: each route of a traffic ends in one way.
 #![tactic(auto)]
 
 pub mod count;

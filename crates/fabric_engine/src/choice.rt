@@ -1,4 +1,4 @@
-//! The best of several tables.
+//! The best of several sets of tables.
 
 ghost use Rattle.std.specs.Prelude.{IfOk, IfSome};
 ghost use Rattle.fabric_engine.specs.Made.{AreTablesFor};
@@ -361,9 +361,12 @@ impl Ground {
     }
 }
 
-/// Tables for all LIDs that have an owner, with all ways for the traffic, and how good they are; none if no
-/// order that was tried has all ways, as in a fabric in parts. The same fabric has the same tables each
-/// time. The error is want of memory alone.
+/// Makes tables for all LIDs that have an owner, with all paths for `traffic`, and measures them. Returns `None` if no
+/// order that was tried has all paths, for example in a fabric in parts. The same fabric gets the same tables each
+/// time.
+///
+/// # Errors
+/// `OutOfMemory`.
 pub fn lay_tables(
     alloc: Global,
     fabric: &Fabric,

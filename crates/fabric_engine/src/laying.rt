@@ -85,7 +85,10 @@ pub struct Laying {
 }
 
 impl Laying {
-    /// No routes yet.
+    /// Creates an empty set of routes.
+    ///
+    /// # Errors
+    /// `OutOfMemory`.
     pub fn new(alloc: Global, channels: &Channels, demand: &Demand) -> Result<Laying, OutOfMemory> {
         let switches = channels.switches();
         let targets = narrow(demand.targets().len());
@@ -101,12 +104,15 @@ impl Laying {
         })
     }
 
-    /// The exits of all switches for all targets.
+    /// Returns the exits of all switches for all targets.
     pub fn rows(&self) -> &Rows {
         &self.rows
     }
 
-    /// No routes yet; exits that cost the same will be taken in turn.
+    /// Creates an empty set of routes, for which exits of equal cost are taken in turn.
+    ///
+    /// # Errors
+    /// `OutOfMemory`.
     pub fn in_turn(
         alloc: Global,
         channels: &Channels,
@@ -117,17 +123,20 @@ impl Laying {
         Ok(laying)
     }
 
-    /// Whether exits that cost the same are taken in turn.
+    /// Reports whether exits of equal cost are taken in turn.
     pub fn is_in_turn(&self) -> bool {
         self.heights.is_some()
     }
 
-    /// How good the routes of the traffic are.
+    /// Returns how good the routes of the traffic are.
     pub fn measures(&self) -> Measures {
         self.measures
     }
 
     /// Moves single exits, so that routes are spread better.
+    ///
+    /// # Errors
+    /// `OutOfMemory`.
     pub fn polish(&mut self, plan: Plan<'_>) -> Result<(), OutOfMemory> {
         self.measures.longest = polish(plan, &mut self.rows, &mut self.loads)?;
         self.measures.take_loads(&self.loads);
@@ -250,8 +259,11 @@ impl Laying {
         Ok(())
     }
 
-    /// Lays the routes to the targets at switches to which the traffic has none, so far as there are any. Loads and
-    /// measures stay as they are.
+    /// Lays the routes to the targets at switches to which the traffic has none, as far as there are any. Loads and
+    /// measures do not change.
+    ///
+    /// # Errors
+    /// `OutOfMemory`.
     pub fn lay_others(&mut self, alloc: Global, plan: Plan<'_>) -> Result<(), OutOfMemory> {
         'switches: for switch in 0..plan.channels.switches() {
             if plan.leaves_out(switch) {
@@ -261,8 +273,11 @@ impl Laying {
         Ok(())
     }
 
-    /// Lays the routes of the traffic, in rounds: after the first each target is laid again by the loads of all others.
-    /// The same switches have ways in each round.
+    /// Lays the routes of the traffic, in rounds: after the first round each target is laid again by the loads of all
+    /// others. The same switches have paths in each round.
+    ///
+    /// # Errors
+    /// `OutOfMemory`.
     pub fn lay(
         &mut self,
         alloc: Global,

@@ -4,18 +4,18 @@ use fabric_engine_channels::ways::Ways;
 use fabric_engine_rising::loads::Loads;
 use fabric_engine_rising::plan::Plan;
 
-/// How good routes are: all but the first number are of those between the end ports of adapters and routers.
+/// How good routes are. All numbers except the first are of routes between the end ports of adapters and routers.
 #[derive(Clone, Copy)]
 pub struct Measures {
-    /// For how many pairs of a switch and a LID there is no way for the traffic.
+    /// The number of pairs of a switch and a LID without a path for the traffic.
     pub lost: u64,
-    /// How many routes there are.
+    /// The number of routes.
     pub routes: u64,
-    /// The sum of the channels of all these routes: how many they have together.
+    /// The number of channels on all these routes together.
     pub hops: u64,
-    /// The most channels that a route has.
+    /// The highest number of channels on a route.
     pub longest: u32,
-    /// The most routes that pass one channel.
+    /// The maximum link load: the highest number of routes that pass one channel.
     pub greatest: u64,
 }
 
@@ -37,7 +37,7 @@ fn log2(number: u64) -> u64 {
 }
 
 impl Measures {
-    /// Of no routes.
+    /// The measures of no routes.
     pub const NONE: Measures = Measures {
         lost: 0,
         routes: 0,
@@ -46,17 +46,18 @@ impl Measures {
         greatest: 0,
     };
 
-    /// Whether the traffic has all its ways.
+    /// Reports whether the traffic has all its paths.
     pub fn is_complete(self) -> bool {
         self.lost == 0
     }
 
-    /// How many channels a route has in the mean, in parts of 2^16.
+    /// Returns the mean number of channels on a route, in parts of 2^16.
     pub fn mean(self) -> u64 {
         self.hops.saturating_mul(1 << 16) / self.routes.max(1)
     }
 
-    /// The less, the better: a hundredth more hops counts as much as six hundredths more load on the channel with most.
+    /// Returns a score; lower is better. One hundredth more hops counts as much as six hundredths more load on the
+    /// busiest channel.
     pub fn score(self) -> u64 {
         log2(self.hops)
             .wrapping_mul(6)

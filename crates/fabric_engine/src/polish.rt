@@ -180,8 +180,11 @@ fn busy(plan: Plan<'_>, loads: &Loads) -> u64 {
     loads.greatest() / 10 * 9
 }
 
-/// Moves exits of the rows, whose loads are given, so that turns rise as before, no way grows longer, and the sum of the
-/// squares of the loads falls. Answers the most channels on a way of end ports after it.
+/// Moves exits of `rows`, whose loads are `loads`, so that turns rise as before, no path grows longer, and the sum of
+/// the squares of the loads falls. Returns the highest number of channels on a path of end ports afterwards.
+///
+/// # Errors
+/// `OutOfMemory`.
 pub fn polish(plan: Plan<'_>, rows: &mut Rows, loads: &mut Loads) -> Result<u32, OutOfMemory> {
     let mut longest = 0;
     'passes: for _ in 0..PASSES {

@@ -22,7 +22,8 @@ fn port_of(channels: &Channels, rows: &Rows, row: u32, target: Target, switch: u
     Some(channels.port(exit))
 }
 
-/// Puts the port of a switch for a LID, if the LID has an owner and the switch no port for it yet. 255 is none.
+/// Sets the port of `switch` for `lid`, if the LID has an owner and the switch no port for it yet. 255 is not a port.
+/// The caller must pass a switch of the fabric, and tables for it.
 pub fn put_port(fabric: &Fabric, cells: &mut Cells, switch: usize, lid: usize, port: u8)
     requires switch { switch < switch_count fabric.now }
     requires tables { AreTablesFor fabric.now cells.old }
@@ -52,7 +53,10 @@ fn write_row(
     }
 }
 
-/// The tables for all targets.
+/// Returns the tables for all targets.
+///
+/// # Errors
+/// `OutOfMemory`.
 pub fn write_tables(
     alloc: Global,
     fabric: &Fabric,

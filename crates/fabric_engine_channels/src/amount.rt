@@ -1,12 +1,12 @@
-//! Numbers of things that come and go.
+//! Amounts that grow and shrink.
 
-/// How many there are of something. Sums wrap.
+/// A number of things. Sums wrap.
 pub trait Amount {
-    /// So many more.
+    /// Returns the sum of the amount and `more`.
     #[inline]
     fn plus(self, more: Self) -> Self;
 
-    /// So many fewer.
+    /// Returns the amount less `fewer`.
     #[inline]
     fn minus(self, fewer: Self) -> Self;
 }
@@ -35,17 +35,17 @@ impl Amount for u64 {
     }
 }
 
-/// Whether things come or go.
+/// Whether an amount grows or shrinks.
 #[derive(Clone, Copy)]
 pub enum Change {
-    /// They come.
+    /// It grows.
     Come,
-    /// They go.
+    /// It shrinks.
     Go,
 }
 
 impl Change {
-    /// How many there are after so many came or went.
+    /// Returns `amount`, grown or shrunk by `by`.
     #[inline]
     pub fn of<A: Amount>(self, amount: A, by: A) -> A {
         match self {

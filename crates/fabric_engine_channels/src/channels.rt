@@ -21,7 +21,7 @@ impl Numbered for Channel {
     }
 }
 
-/// A turn: a channel, and one out of the switch to which it leads. By its number.
+/// A turn, by its number: from a channel to a channel out of the switch to which it leads.
 #[derive(Clone, Copy)]
 pub struct Turn(pub u32);
 
@@ -52,8 +52,8 @@ const NO_DETAIL: Detail = Detail {
 // The channel that there is not.
 const NO_CHANNEL: Channel = Channel(u32::MAX);
 
-/// The channels of a fabric, switch by switch, and those of a switch by rising port. A link of a switch to itself is
-/// none: no route needs it.
+/// The channels of a fabric, switch by switch, and in ascending order of port for each switch. A link of a switch to
+/// itself does not count, because no route needs it.
 #[derive(Drop)]
 pub struct Channels {
     switches: u32,
@@ -68,7 +68,10 @@ pub struct Channels {
 }
 
 impl Channels {
-    /// The channels of a fabric.
+    /// Returns the channels of `fabric`.
+    ///
+    /// # Errors
+    /// `OutOfMemory`.
     pub fn of(alloc: Global, fabric: &Fabric) -> Result<Channels, OutOfMemory> {
         let mut channels = Channels {
             switches: fabric.switches() as u32,
@@ -141,58 +144,58 @@ impl Channels {
         NO_CHANNEL
     }
 
-    /// How many switches there are.
+    /// Returns the number of switches.
     pub fn switches(&self) -> u32 {
         self.switches
     }
 
-    /// How many channels there are.
+    /// Returns the number of channels.
     pub fn count(&self) -> u32 {
         self.heads.count()
     }
 
-    /// How many turns there are.
+    /// Returns the number of turns.
     pub fn turns(&self) -> u32 {
         self.turns
     }
 
-    /// The port by which its switch sends.
+    /// Returns the port of its switch out of which `channel` leads.
     pub fn port(&self, channel: Channel) -> u8 {
         self.details.get(channel).port
     }
 
-    /// The switch to which a channel leads.
+    /// Returns the switch to which `channel` leads.
     #[inline]
     pub fn to(&self, channel: Channel) -> u32 {
         self.heads.get(channel)
     }
 
-    /// The switch from which it leads.
+    /// Returns the switch out of which `channel` leads.
     #[inline]
     pub fn from(&self, channel: Channel) -> u32 {
         self.to(self.back(channel))
     }
 
-    /// The channel of the same link in the other direction.
+    /// Returns the channel of the same link in the other direction.
     #[inline]
     pub fn back(&self, channel: Channel) -> Channel {
         self.backs.get(channel)
     }
 
-    /// The numbers of the channels of a switch.
+    /// Returns the numbers of the channels out of `switch`.
     #[inline]
     pub fn exits(&self, switch: u32) -> Range<u32> {
         self.firsts.get(switch)..self.firsts.get(switch.wrapping_add(1))
     }
 
-    /// How many channels a switch has.
+    /// Returns the number of channels out of `switch`.
     #[inline]
     pub fn degree(&self, switch: u32) -> u32 {
         let exits = self.exits(switch);
         exits.end.saturating_sub(exits.start)
     }
 
-    /// The first switch with the most channels.
+    /// Returns the first of the switches with the most channels.
     pub fn widest(&self) -> u32 {
         let mut widest = 0;
         'switches: for switch in 0..self.switches {
@@ -203,20 +206,20 @@ impl Channels {
         widest
     }
 
-    /// The turn from a channel to one of the switch to which it leads.
+    /// Returns the turn from `channel` to `next`, a channel out of the switch to which `channel` leads.
     #[inline]
     pub fn turn(&self, channel: Channel, next: Channel) -> Turn {
         let place = self.place(self.to(channel), next);
         Turn(self.details.get(channel).turns.wrapping_add(place))
     }
 
-    /// The place of a channel among those of its switch.
+    /// Returns the index of `channel` among those of `switch`.
     #[inline]
     pub fn place(&self, switch: u32, channel: Channel) -> u32 {
         channel.0.wrapping_sub(self.firsts.get(switch))
     }
 
-    /// The channel at a place among those of a switch, if there is one.
+    /// Returns the channel at index `place` among those of `switch`, if there is one.
     #[inline]
     pub fn exit_at(&self, switch: u32, place: u32) -> Option<Channel> {
         let exits = self.exits(switch);

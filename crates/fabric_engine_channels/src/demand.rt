@@ -1,4 +1,4 @@
-//! From where to where routes lead.
+//! Where routes begin and where they lead.
 
 ghost use Rattle.std.specs.Prelude.{◌<◌};
 
@@ -13,14 +13,14 @@ use std::alloc::Global;
 pub struct Target {
     /// The LID.
     pub lid: u16,
-    /// The switch to which the owner is cabled, or that is the owner.
+    /// The switch to which the owner is cabled, or the switch that is the owner.
     pub switch: u32,
-    /// The port to which the owner is cabled; 0 if it is the switch.
+    /// The port to which the owner is cabled; 0 if the owner is the switch.
     pub port: u8,
 }
 
 impl Target {
-    /// Whether the owner is an adapter or router.
+    /// Reports whether the owner is an adapter or router.
     #[inline]
     pub fn is_host(self) -> bool {
         self.port != 0
@@ -37,7 +37,7 @@ struct Group {
 // No targets.
 const NO_GROUP: Group = Group { first: 0, count: 0 };
 
-/// The end ports at each switch, and the targets, switch by switch. An end port that is not cabled is none.
+/// The end ports at each switch, and the targets, switch by switch. An end port that is not cabled does not count.
 #[derive(Drop)]
 pub struct Demand {
     hosts: Table<u32>,
@@ -130,7 +130,10 @@ fn find_groups(
 }
 
 impl Demand {
-    /// The end ports and targets of a fabric.
+    /// Returns the end ports and targets of `fabric`.
+    ///
+    /// # Errors
+    /// `OutOfMemory`.
     pub fn of(alloc: Global, fabric: &Fabric) -> Result<Demand, OutOfMemory> {
         let switches = narrow(fabric.switches());
         let hosts = count_hosts(alloc, fabric, switches)?;
@@ -146,33 +149,33 @@ impl Demand {
         })
     }
 
-    /// How many end ports of adapters and routers are cabled to a switch.
+    /// Returns the number of end ports of adapters and routers that are cabled to `switch`.
     #[inline]
     pub fn hosts(&self, switch: u32) -> u32 {
         self.hosts.get(switch)
     }
 
-    /// How many end ports of adapters and routers are cabled.
+    /// Returns the number of end ports of adapters and routers that are cabled.
     pub fn host_count(&self) -> u32 {
         self.count
     }
 
-    /// The switches to which end ports of adapters and routers are cabled.
+    /// Returns the switches to which end ports of adapters and routers are cabled.
     pub fn leaves(&self) -> &[u32] {
         &self.leaves
     }
 
-    /// All targets.
+    /// Returns all targets.
     pub fn targets(&self) -> &[Target] {
         &self.targets
     }
 
-    /// The place of the first target at a switch among all.
+    /// Returns the index, among all targets, of the first target at `switch`.
     pub fn first_at(&self, switch: u32) -> u32 {
         self.groups.get(switch).first
     }
 
-    /// The targets at a switch.
+    /// Returns the targets at `switch`.
     pub fn targets_at(&self, switch: u32) -> &[Target] {
         let group = self.groups.get(switch);
         let first = group.first as usize;
@@ -180,7 +183,7 @@ impl Demand {
         self.targets.get(first..end).unwrap_or(&[])
     }
 
-    /// How many LIDs the adapters and routers at a switch own.
+    /// Returns the number of LIDs that the adapters and routers at `switch` own.
     pub fn host_lids(&self, switch: u32) -> u32 {
         let targets = self.targets_at(switch);
         narrow(targets.iter().filter(|target| target.is_host()).count())

@@ -1,8 +1,8 @@
-//! The channels of a fabric, as what makes tables sees them: their turns and total orders, the LIDs to which
-//! routes lead, and the ways of all switches to one.
+//! fabric, routing engine: the channels and turns of a fabric as the engine sees them: total orders of channels, the
+//! LIDs to which routes lead, and the paths of all switches to one.
 //!
-//! It stands on `an_base` and `fabric_model`. No contract speaks of it: tables that are made are judged as those that
-//! are read. Only that each call returns, and that no number runs over and no index is out of range, is proved.
+//! The crate depends on `fabric_model`. It has no contract, because tables that the engine makes are judged like tables
+//! that are read. We prove only that each call returns, that no number overflows, and that no index is out of range.
 #![tactic(auto)]
 
 pub mod amount;

@@ -5,7 +5,7 @@ use crate::table::{Table, places};
 use common_values::memory::OutOfMemory;
 use std::alloc::Global;
 
-/// A total order of the channels. Routes along which it rises close no cycle, whatever their ends.
+/// A total order of the channels. Routes along which it rises form no cycle, wherever they begin and end.
 #[derive(Drop)]
 pub struct Order {
     sequence: Vec<Channel>,
@@ -13,24 +13,27 @@ pub struct Order {
 }
 
 impl Order {
-    /// The order in which channels stand in a list of all.
+    /// Creates the order of `sequence`, a list of all channels.
+    ///
+    /// # Errors
+    /// `OutOfMemory`.
     pub fn of(alloc: Global, sequence: Vec<Channel>) -> Result<Order, OutOfMemory> {
         let places = places(alloc, &sequence)?;
         Ok(Order { sequence, places })
     }
 
-    /// The channels, each after those that are less.
+    /// Returns the channels in ascending order.
     pub fn sequence(&self) -> &[Channel] {
         &self.sequence
     }
 
-    /// The place of a channel.
+    /// Returns the index of `channel` in the order.
     #[inline]
     pub fn place(&self, channel: Channel) -> u32 {
         self.places.get(channel)
     }
 
-    /// Whether a turn rises.
+    /// Reports whether the turn from `channel` to `next` rises.
     #[inline]
     pub fn rises(&self, channel: Channel, next: Channel) -> bool {
         self.place(channel) < self.place(next)

@@ -1,12 +1,12 @@
-//! Tables of values for what has numbers.
+//! Tables of values for things that have numbers.
 
 use crate::amount::{Amount, Change};
 use common_values::memory::OutOfMemory;
 use std::alloc::Global;
 
-/// What has a number, by which it is found in a table.
+/// A thing with a number, by which it is found in a table.
 pub trait Numbered: Copy {
-    /// Its number.
+    /// Returns its number.
     #[inline]
     fn number(self) -> u32;
 }
@@ -18,8 +18,8 @@ impl Numbered for u32 {
     }
 }
 
-/// A value for each number below a count. What is read at others is the value that all had at first, and what is
-/// put there is let go.
+/// A value for each number below a count. Reading any other number gives the value that all had at first, and writing
+/// it has no effect.
 #[derive(Drop)]
 pub struct Table<T: Copy> {
     items: Vec<T>,
@@ -27,7 +27,7 @@ pub struct Table<T: Copy> {
 }
 
 impl<T: Copy> Table<T> {
-    /// A table for no numbers.
+    /// Creates a table for no numbers.
     pub fn empty(alloc: Global, first: T) -> Table<T> {
         Table {
             items: Vec::new(alloc),
@@ -35,25 +35,28 @@ impl<T: Copy> Table<T> {
         }
     }
 
-    /// A table for the numbers below a count, which all have one value.
+    /// Creates a table for the numbers below `count`, all with the value `first`.
+    ///
+    /// # Errors
+    /// `OutOfMemory`.
     pub fn filled(alloc: Global, count: u32, first: T) -> Result<Table<T>, OutOfMemory> {
         let items = vec![in alloc; first; count as usize]?;
         Ok(Table { items, first })
     }
 
-    /// How many numbers have a value.
+    /// Returns the count of numbers.
     pub fn count(&self) -> u32 {
         narrow(self.items.len())
     }
 
-    /// The value for a number.
+    /// Returns the value for `key`.
     #[inline]
     pub fn get<K: Numbered>(&self, key: K) -> T {
         let place = key.number() as usize;
         self.items.get(place).copied().unwrap_or(self.first)
     }
 
-    /// Puts the value for a number.
+    /// Sets the value for `key`.
     #[inline]
     pub fn put<K: Numbered>(&mut self, key: K, value: T) {
         let place = key.number() as usize;
@@ -63,12 +66,15 @@ impl<T: Copy> Table<T> {
     }
 
     /// Adds the value for the next number.
+    ///
+    /// # Errors
+    /// `OutOfMemory`.
     pub fn push(&mut self, value: T) -> Result<(), OutOfMemory> {
         self.items.push(value)?;
         Ok(())
     }
 
-    /// Gives to all numbers the value that they had at first.
+    /// Sets all values to the one that all had at first.
     pub fn reset(&mut self) {
         let first = self.first;
         'items: for item in self.items.iter_mut() {
@@ -78,7 +84,7 @@ impl<T: Copy> Table<T> {
 }
 
 impl<T: Copy + Amount> Table<T> {
-    /// Lets so many come to the value for a number or go from it.
+    /// Grows or shrinks the value for `key` by `by`.
     #[inline]
     pub fn change<K: Numbered>(&mut self, key: K, by: T, change: Change) {
         let place = key.number() as usize;
@@ -87,14 +93,17 @@ impl<T: Copy + Amount> Table<T> {
         }
     }
 
-    /// Adds so many to the value for a number.
+    /// Adds `more` to the value for `key`.
     #[inline]
     pub fn add<K: Numbered>(&mut self, key: K, more: T) {
         self.change(key, more, Change::Come);
     }
 }
 
-/// The place of each in a list of all.
+/// Returns the index of each thing in `list`, a list of all of them.
+///
+/// # Errors
+/// `OutOfMemory`.
 pub fn places<K: Numbered>(alloc: Global, list: &[K]) -> Result<Table<u32>, OutOfMemory> {
     let mut places = Table::filled(alloc, narrow(list.len()), 0u32)?;
     'list: for (place, key) in list.iter().enumerate() {
@@ -103,7 +112,7 @@ pub fn places<K: Numbered>(alloc: Global, list: &[K]) -> Result<Table<u32>, OutO
     Ok(places)
 }
 
-/// A count in four bytes, `u32::MAX` if it is greater.
+/// Returns `count` in four bytes, or `u32::MAX` if it is higher.
 #[inline]
 pub fn narrow(count: usize) -> u32 {
     u32::try_from(count).unwrap_or(u32::MAX)

@@ -1,4 +1,4 @@
-//! The ways of all switches to one.
+//! The paths of all switches to one.
 
 use crate::channels::{Channel, Channels};
 use crate::demand::Demand;
@@ -7,26 +7,26 @@ use crate::table::Table;
 use common_values::memory::OutOfMemory;
 use std::alloc::Global;
 
-/// The depth of a switch without a way.
+/// The depth of a switch without a path.
 pub const FAR: u32 = u32::MAX;
 
 // What a turn costs that is to be spared: more than all loads on a way.
 const SPARED: u64 = 1 << 40;
 
-/// Which turns new ways make.
+/// Which turns new paths can make.
 #[derive(Clone, Copy)]
 pub enum Rule<'a> {
-    /// Any.
+    /// Every turn.
     Any,
-    /// As few as can be that do not rise in an order.
+    /// As few turns as possible that do not rise in an order.
     Fewest(&'a Order),
-    /// Those alone that rise in it.
+    /// Only turns that rise in an order.
     Rising(&'a Order),
 }
 
 impl Rule<'_> {
-    /// What the turn from a channel to the exit of the switch to which it leads costs; none if it may not be
-    /// made.
+    /// Returns the cost of the turn from `channel` to the exit of the switch to which it leads, or `None` if the turn
+    /// is not allowed.
     #[inline]
     pub fn toll(self, channel: Channel, exit: Option<Channel>) -> Option<u64> {
         let Some(next) = exit else {
@@ -50,7 +50,7 @@ impl Rule<'_> {
     }
 }
 
-/// The ways of all switches to one, the target: each sends by one channel, its exit, if it has a way.
+/// The paths of all switches to one, the target: each switch with a path sends through one channel, its exit.
 #[derive(Drop)]
 pub struct Ways {
     exits: Table<Option<Channel>>,
@@ -65,7 +65,10 @@ pub struct Ways {
 }
 
 impl Ways {
-    /// Room for the ways of so many switches.
+    /// Creates space for the paths of `switches` switches.
+    ///
+    /// # Errors
+    /// `OutOfMemory`.
     pub fn new(alloc: Global, switches: u32) -> Result<Ways, OutOfMemory> {
         Ok(Ways {
             exits: Table::filled(alloc, switches, None)?,
@@ -77,35 +80,35 @@ impl Ways {
         })
     }
 
-    /// The exit of a switch; the target has none.
+    /// Returns the exit of `switch`; the target has none.
     #[inline]
     pub fn exit(&self, switch: u32) -> Option<Channel> {
         self.exits.get(switch)
     }
 
-    /// How many channels the way of a switch has, `FAR` if it has none.
+    /// Returns the number of channels on the path of `switch`, `FAR` if it has no path.
     #[inline]
     pub fn depth(&self, switch: u32) -> u32 {
         self.depths.get(switch)
     }
 
-    /// How many channels the way of each switch has.
+    /// Returns the number of channels on the path of each switch.
     pub fn depths(&self) -> &Table<u32> {
         &self.depths
     }
 
-    /// The switches with a way, the target first, none before one that is nearer.
+    /// Returns the switches with a path, in ascending order of distance from the target, which comes first.
     pub fn nearest(&self) -> &[u32] {
         &self.nearest
     }
 
-    /// Gives an exit to a switch. Depths are not found anew.
+    /// Sets the exit of `switch`, but leaves depths as they are.
     #[inline]
     pub fn put_exit(&mut self, switch: u32, exit: Option<Channel>) {
         self.exits.put(switch, exit);
     }
 
-    /// Takes all ways away.
+    /// Removes all paths.
     pub fn clear(&mut self) {
         self.exits.reset();
         self.depths.reset();
@@ -120,7 +123,10 @@ impl Ways {
         Ok(())
     }
 
-    /// Adds a switch that had no way, by an exit to one that has one, or as the target.
+    /// Adds `switch`, which has no path: with an exit to a switch that has one, or as the target.
+    ///
+    /// # Errors
+    /// `OutOfMemory`.
     #[inline]
     pub fn add(
         &mut self,
@@ -191,8 +197,11 @@ impl Ways {
         }
     }
 
-    /// Makes shortest ways to a target, level by level: of the exits of a switch that the rule allows to be taken to
-    /// the level before, one with the least sum of loads to the target.
+    /// Makes shortest paths to `target`, depth by depth: of the exits that `rule` allows, each switch takes one to the
+    /// previous depth with the lowest sum of loads to the target.
+    ///
+    /// # Errors
+    /// `OutOfMemory`.
     pub fn grow(
         &mut self,
         channels: &Channels,
@@ -242,7 +251,10 @@ impl Ways {
         Ok(())
     }
 
-    /// Finds depths and the nearest switches anew, after exits were put.
+    /// Computes depths and the nearest switches again, after exits were set.
+    ///
+    /// # Errors
+    /// `OutOfMemory`.
     pub fn arrange(&mut self, channels: &Channels, target: u32) -> Result<(), OutOfMemory> {
         self.put_exit(target, None);
         self.note_senders(channels);
@@ -257,15 +269,15 @@ impl Ways {
         Ok(())
     }
 
-    /// Finds for each switch with a way how many end ports of adapters and routers there are at it.
+    /// Sets in `flows`, for each switch with a path, the number of end ports of adapters and routers at it.
     pub fn begin(&self, demand: &Demand, flows: &mut Table<u32>) {
         'hosts: for switch in &self.nearest {
             flows.put(*switch, demand.hosts(*switch));
         }
     }
 
-    /// Finds for each switch with a way how many end ports of adapters and routers send over it to the target, those
-    /// at the switch among them.
+    /// Sets in `flows`, for each switch with a path, the number of end ports of adapters and routers that send through
+    /// it to the target, including those at the switch.
     pub fn gather(&self, channels: &Channels, demand: &Demand, flows: &mut Table<u32>) {
         self.begin(demand, flows);
         'flows: for switch in self.nearest.iter().rev() {

@@ -77,7 +77,10 @@ impl Queue {
     }
 }
 
-/// An order in which all turns with a weight rise, if they close no cycle.
+/// Returns an order in which all turns with a weight rise, if they form no cycle.
+///
+/// # Errors
+/// `OutOfMemory`.
 pub fn order_along(
     alloc: Global,
     channels: &Channels,

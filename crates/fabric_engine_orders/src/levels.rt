@@ -1,4 +1,4 @@
-//! Levels of switches, and the orders up and then down by them.
+//! Levels of switches, and the orders that go up and then down by them.
 
 use common_values::memory::OutOfMemory;
 use fabric_engine_channels::channels::{Channel, Channels};
@@ -76,7 +76,11 @@ fn greatest(channels: &Channels, levels: &Table<u32>) -> u32 {
     greatest
 }
 
-/// How far each switch is from the nearest one with end ports of adapters and routers, `FAR` if it is joined to none.
+/// Returns the distance of each switch from the nearest one with end ports of adapters and routers, `FAR` if it is
+/// joined to none.
+///
+/// # Errors
+/// `OutOfMemory`.
 pub fn heights(
     alloc: Global,
     channels: &Channels,
@@ -148,8 +152,11 @@ fn push_exits(
     Ok(())
 }
 
-/// The order of routes that lead up, to lesser levels, and then down; among equal levels a lesser place is up. First
-/// all channels up, the deepest first, then all channels down, the highest first.
+/// Returns the order of routes that go up, to lower numbers in `levels`, and then down; between equal levels, towards
+/// the lower index is up. First come all channels up, the deepest first, then all channels down, the highest first.
+///
+/// # Errors
+/// `OutOfMemory`.
 pub fn up_down(
     alloc: Global,
     channels: &Channels,
@@ -188,7 +195,10 @@ fn push_all(
     Ok(())
 }
 
-/// The order up to a root and then down.
+/// Returns the order that goes up to `root` and then down.
+///
+/// # Errors
+/// `OutOfMemory`.
 pub fn order_from_root(
     alloc: Global,
     channels: &Channels,
@@ -198,8 +208,11 @@ pub fn order_from_root(
     up_down(alloc, channels, &levels)
 }
 
-/// The order up to switches that are farther from all leaves and then down; none if each switch is a leaf, or
-/// none.
+/// Returns the order that goes up to switches farther from all leaves and then down, or `None` if every switch is a
+/// leaf, or none is.
+///
+/// # Errors
+/// `OutOfMemory`.
 pub fn order_by_height(
     alloc: Global,
     channels: &Channels,

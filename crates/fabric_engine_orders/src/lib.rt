@@ -1,7 +1,8 @@
-//! Total orders of the channels of a fabric, along which routes may be laid: by levels of switches, by first ports,
-//! and by spanning trees, sifted so that few routes have to go round.
+//! fabric, routing engine: candidate total orders of the channels, along which routes can be laid: by levels of
+//! switches, by first ports, and by spanning trees, sifted so that few routes need a detour.
 //!
-//! It stands on `an_base` and `fabric_engine_channels`. No contract speaks of it, as of that.
+//! The crate depends on `fabric_engine_channels`, and has no contract either: we prove only that each call returns,
+//! that no number overflows, and that no index is out of range.
 #![tactic(auto)]
 
 mod first_ports;

@@ -1,4 +1,4 @@
-//! What orders of channels are made of.
+//! The materials from which orders of channels are made.
 
 use crate::weights::Weights;
 use common_values::memory::OutOfMemory;
@@ -8,16 +8,16 @@ use fabric_engine_channels::table::Table;
 use fabric_engine_channels::ways::{Rule, Ways};
 use std::alloc::Global;
 
-/// What orders of the channels of a fabric are made of.
+/// The materials from which orders of the channels of a fabric are made.
 #[derive(Drop)]
 pub struct Materials {
-    /// The first switch with the most channels.
+    /// The first of the switches with the most channels.
     pub root: u32,
     /// The first switch with end ports of adapters and routers, or the root.
     pub leaf: u32,
-    /// How many channels a shortest route has in the mean, between end ports of adapters and routers, in parts of 2^16.
+    /// The mean number of channels on a shortest route between end ports of adapters and routers, in parts of 2^16.
     pub least_mean: u64,
-    /// The most channels that one of these has.
+    /// The highest number of channels on one of these routes.
     pub least_longest: u32,
     // How many shortest routes make each turn, where they are spread, and where they leave by first ports.
     spread: Table<u32>,
@@ -27,9 +27,9 @@ pub struct Materials {
 /// Which shortest routes are to break few turns.
 #[derive(Clone, Copy)]
 pub enum Wanted {
-    /// Those that are spread over the channels.
+    /// Routes that are spread over the channels.
     Spread,
-    /// Those that leave each switch by the first port that they can.
+    /// Routes that leave each switch by the first port that they can.
     FirstPorts,
 }
 
@@ -50,7 +50,10 @@ fn add_all(
 }
 
 impl Materials {
-    /// The materials of a fabric.
+    /// Computes the materials of a fabric.
+    ///
+    /// # Errors
+    /// `OutOfMemory`.
     pub fn of(
         alloc: Global,
         channels: &Channels,
@@ -70,7 +73,7 @@ impl Materials {
         })
     }
 
-    /// How many of these routes make each turn.
+    /// Returns how many of these routes make each turn.
     pub fn weights(&self, wanted: Wanted) -> &Table<u32> {
         match wanted {
             Wanted::Spread => &self.spread,

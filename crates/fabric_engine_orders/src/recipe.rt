@@ -17,30 +17,30 @@ use std::alloc::Global;
 /// The form of a spanning tree.
 #[derive(Clone, Copy)]
 pub enum Shape {
-    /// In breadth, from a switch with the most channels.
+    /// Breadth-first, from a switch with the most channels.
     Wide,
-    /// In depth, from a switch with the most channels; numbers make different ones.
+    /// Depth-first, from a switch with the most channels; different numbers give different trees.
     Deep(u64),
 }
 
 /// How an order is made.
 #[derive(Clone, Copy)]
 pub enum Recipe {
-    /// Up to greater height over the leaves, and then down.
+    /// Up, away from the leaves, and then down.
     Heights,
-    /// The same, made better.
+    /// As `Heights`, made better.
     BetterHeights,
     /// Along the routes that leave each switch by the first port that they can.
     FirstPorts,
     /// Up to a switch with the most channels, and then down.
     Levels,
-    /// Up to a leaf, and then down, if not each switch is a leaf. In a whole fat tree all turns rise that rise by
-    /// heights, and there is a route from each switch to each.
+    /// Up to a leaf, and then down, if some switch is not a leaf. In an intact fat tree all turns rise that rise by
+    /// heights, and there is a route from each switch to every other one.
     LevelsFromLeaf,
-    /// Up a spanning tree and then down, made better so that these routes break few turns. The turns of the tree are kept,
-    /// so there is a route from each switch to each.
+    /// Up a spanning tree and then down, made better so that these routes break few turns. The turns of the tree are
+    /// kept, so there is a route from each switch to every other one.
     Tree(Shape, Wanted),
-    /// Up a spanning tree and then down, made better for routes that are spread. The turns of the tree may be broken.
+    /// Up a spanning tree and then down, made better for routes that are spread. The turns of the tree can be broken.
     FreeTree(Shape),
 }
 
@@ -136,7 +136,10 @@ impl Making<'_> {
 }
 
 impl Recipe {
-    /// The order, if the recipe makes one for the fabric.
+    /// Makes the order, if the recipe gives one for the fabric.
+    ///
+    /// # Errors
+    /// `OutOfMemory`.
     pub fn make(
         self,
         alloc: Global,

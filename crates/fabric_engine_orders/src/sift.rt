@@ -1,4 +1,4 @@
-//! Orders made better a channel at a time.
+//! Orders made better, one channel at a time.
 
 use common_values::memory::OutOfMemory;
 use fabric_engine_channels::channels::{Channel, Channels};
@@ -15,12 +15,12 @@ const STEP: u64 = 1 << 32;
 // What a turn weighs that is to be kept.
 const KEPT: u64 = 1 << 40;
 
-/// The turns of which few are to be broken: those that do not rise.
+/// The turns of which few are to be broken. A broken turn is one that does not rise.
 #[derive(Clone, Copy)]
 pub struct Wishes<'a> {
-    /// How many routes make each.
+    /// How many routes make each turn.
     pub weights: &'a Table<u32>,
-    /// Which channels are of a tree, whose turns are to be kept; if one is.
+    /// The channels of a tree whose turns are to be kept, if there is one.
     pub kept: Option<&'a Table<bool>>,
 }
 
@@ -214,7 +214,11 @@ fn pass(
     Ok(gain)
 }
 
-/// Lets less be broken by an order, a channel at a time, until a pass over all brings nothing.
+/// Improves `order`, one channel at a time, so that it breaks fewer turns, until a pass over all channels brings
+/// nothing.
+///
+/// # Errors
+/// `OutOfMemory`.
 pub fn sift(
     alloc: Global,
     channels: &Channels,

@@ -9,7 +9,7 @@ use fabric_engine_channels::table::Table;
 use fabric_engine_channels::ways::{FAR, Rule, Ways};
 use std::alloc::Global;
 
-/// A spanning tree of the switches that are joined to its root: their ways to it.
+/// A spanning tree of the switches that are joined to its root: their paths to the root.
 #[derive(Drop)]
 pub struct Tree {
     ways: Ways,
@@ -109,7 +109,10 @@ impl Walk {
 }
 
 impl Tree {
-    /// A tree in depth. It has long branches: few turns are to be kept for it, and few routes pass its root.
+    /// Makes a depth-first tree. It has long branches: few turns must be kept for it, and few routes pass its root.
+    ///
+    /// # Errors
+    /// `OutOfMemory`.
     pub fn deep(
         alloc: Global,
         channels: &Channels,
@@ -121,7 +124,10 @@ impl Tree {
         Ok(Tree { ways: walk.ways })
     }
 
-    /// A tree in breadth.
+    /// Makes a breadth-first tree.
+    ///
+    /// # Errors
+    /// `OutOfMemory`.
     pub fn wide(alloc: Global, channels: &Channels, root: u32) -> Result<Tree, OutOfMemory> {
         let mut ways = Ways::new(alloc, channels.switches())?;
         let loads = Table::empty(alloc, 0u64);
@@ -129,12 +135,18 @@ impl Tree {
         Ok(Tree { ways })
     }
 
-    /// The order of routes that lead up the tree and then down.
+    /// Returns the order of routes that go up the tree and then down.
+    ///
+    /// # Errors
+    /// `OutOfMemory`.
     pub fn order(&self, alloc: Global, channels: &Channels) -> Result<Order, OutOfMemory> {
         up_down(alloc, channels, self.ways.depths())
     }
 
-    /// Which channels are of the tree.
+    /// Returns which channels belong to the tree.
+    ///
+    /// # Errors
+    /// `OutOfMemory`.
     pub fn marks(&self, alloc: Global, channels: &Channels) -> Result<Table<bool>, OutOfMemory> {
         let mut marks = Table::filled(alloc, channels.count(), false)?;
         'switches: for switch in 0..channels.switches() {

@@ -7,18 +7,18 @@ use fabric_engine_channels::table::Table;
 use fabric_engine_channels::ways::{Rule, Ways};
 use std::alloc::Global;
 
-/// What routes between the end ports of adapters and routers do, if they are laid by some rule.
+/// Routes between the end ports of adapters and routers, laid by some rule, in numbers.
 #[derive(Drop)]
 pub struct Weights {
-    /// How many make each turn.
+    /// The number of routes that make each turn.
     pub turns: Table<u32>,
-    /// How many turns of routes the rule would spare.
+    /// The number of turns of routes that the rule would avoid.
     pub spared: u64,
-    /// How many routes there are, but for those from each to itself.
+    /// The number of routes, without those from an end port to itself.
     pub routes: u64,
-    /// How many channels they have together.
+    /// The number of channels on all routes together.
     pub hops: u64,
-    /// The most channels that one has.
+    /// The highest number of channels on a route.
     pub longest: u32,
     loads: Table<u64>,
     flows: Table<u32>,
@@ -38,7 +38,10 @@ fn take_first_ports(channels: &Channels, ways: &mut Ways) {
 }
 
 impl Weights {
-    /// No routes.
+    /// Creates the numbers of no routes.
+    ///
+    /// # Errors
+    /// `OutOfMemory`.
     pub fn none(alloc: Global, channels: &Channels) -> Result<Weights, OutOfMemory> {
         Ok(Weights {
             turns: Table::filled(alloc, channels.turns(), 0u32)?,
@@ -110,7 +113,11 @@ impl Weights {
         }
     }
 
-    /// Adds shortest routes by a rule to a switch, spread over the channels, if it has end ports: ways becomes theirs.
+    /// Adds shortest routes by `rule` to the switch `target`, spread over the channels, if it has end ports. `ways`
+    /// becomes their paths.
+    ///
+    /// # Errors
+    /// `OutOfMemory`.
     pub fn add_shortest(
         &mut self,
         channels: &Channels,
@@ -127,8 +134,8 @@ impl Weights {
         Ok(())
     }
 
-    /// Adds the routes to a switch that leave each other one by the first port that they can, if ways has some shortest
-    /// ones: it becomes theirs.
+    /// Adds the routes to the switch `target` that leave every other switch by the first port that they can, if `ways`
+    /// holds some shortest paths to it. `ways` becomes their paths.
     pub fn add_first_ports(
         &mut self,
         channels: &Channels,
@@ -143,7 +150,10 @@ impl Weights {
         }
     }
 
-    /// Shortest routes by a rule, spread over the channels.
+    /// Returns the numbers of shortest routes by `rule`, spread over the channels.
+    ///
+    /// # Errors
+    /// `OutOfMemory`.
     pub fn shortest(
         alloc: Global,
         channels: &Channels,

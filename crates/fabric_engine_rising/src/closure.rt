@@ -1,4 +1,4 @@
-//! Ways for switches that have none along which an order rises from level to level.
+//! Paths for switches without a path along which an order rises from depth to depth.
 
 use crate::plan::Plan;
 use crate::raising::{extend, raise};
@@ -246,8 +246,11 @@ fn find_missing(
     Ok(missing)
 }
 
-/// Gives ways to the switches that are to have one and have none, so far as the order has rising ones, and shorter ways
-/// to those whose way is too long. All turns rise after it.
+/// Gives paths to the switches that need one and have none, where the order has rising ones, and shorter paths to those
+/// whose path is too long. Afterwards all turns rise.
+///
+/// # Errors
+/// `OutOfMemory`.
 pub fn close_all(
     alloc: Global,
     plan: Plan<'_>,

@@ -1,4 +1,4 @@
-//! The exits between which the routes to the LIDs at one switch may choose.
+//! The exits between which the routes to the LIDs at one switch can choose.
 
 use crate::plan::Plan;
 use common_values::memory::OutOfMemory;
@@ -7,7 +7,7 @@ use fabric_engine_channels::table::{Table, narrow};
 use fabric_engine_channels::ways::Ways;
 use std::alloc::Global;
 
-/// An exit that may be taken.
+/// An exit that can be taken.
 #[derive(Clone, Copy)]
 pub struct Step {
     /// The exit.
@@ -26,7 +26,8 @@ struct Fan {
 // No exits.
 const NO_FAN: Fan = Fan { first: 0, count: 0 };
 
-/// For each switch with a way exits that lead nearer by one, such that all turns rise whichever each switch takes.
+/// For each switch with a path, exits that lead one channel nearer, such that all turns rise whichever exit each switch
+/// takes.
 #[derive(Drop)]
 pub struct Fans {
     steps: Vec<Step>,
@@ -37,7 +38,10 @@ pub struct Fans {
 }
 
 impl Fans {
-    /// Room for the exits of so many switches.
+    /// Creates space for the exits of `switches` switches.
+    ///
+    /// # Errors
+    /// `OutOfMemory`.
     pub fn new(alloc: Global, switches: u32) -> Result<Fans, OutOfMemory> {
         Ok(Fans {
             steps: Vec::new(alloc),
@@ -103,7 +107,10 @@ impl Fans {
         Some(Step { exit, to })
     }
 
-    /// Finds the exits for the ways to a target.
+    /// Finds the exits for the paths to `target`.
+    ///
+    /// # Errors
+    /// `OutOfMemory`.
     pub fn widen(&mut self, plan: Plan<'_>, ways: &Ways, target: u32) -> Result<(), OutOfMemory> {
         self.steps.clear();
         self.fans.reset();
@@ -122,7 +129,7 @@ impl Fans {
         Ok(())
     }
 
-    /// The exits of a switch.
+    /// Returns the exits of `switch`.
     #[inline]
     pub fn exits(&self, switch: u32) -> &[Step] {
         let fan = self.fans.get(switch);

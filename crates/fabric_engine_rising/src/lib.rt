@@ -1,9 +1,10 @@
-//! Routes that rise along one order of the channels: the ways of all switches to one, made longer where none are
-//! shortest, the exits between which routes may choose, rows of exits, and how many routes pass the channels.
+//! fabric, routing engine: balanced routes that follow one order of the channels: the paths of all switches to one,
+//! longer where no shortest path rises, the exits between which routes can choose, rows of exits, and the loads of the
+//! channels.
 //!
-//! It stands on `an_base`, `fabric_routes` and `fabric_engine_channels`. No contract speaks of it: tables that are made are judged as
-//! those that are read. Only that each call returns, and that no number runs over and no index is out of range, is
-//! proved.
+//! The crate depends on `fabric_engine_channels` and on the traffic of `fabric_model`. It has no contract, because
+//! tables that the engine makes are judged like tables that are read. We prove only that each call returns, that no
+//! number overflows, and that no index is out of range.
 #![tactic(auto)]
 
 pub mod closure;

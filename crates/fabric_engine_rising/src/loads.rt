@@ -1,4 +1,4 @@
-//! How many routes pass the channels.
+//! How many routes pass each channel.
 
 use crate::plan::Plan;
 use crate::rows::Rows;
@@ -9,14 +9,14 @@ use fabric_engine_channels::table::Table;
 use fabric_engine_channels::ways::{Rule, Ways};
 use std::alloc::Global;
 
-/// How many routes between end ports of adapters and routers pass each channel; and for one target the ways to it, and
-/// how many of these routes pass each switch.
+/// The number of routes between end ports of adapters and routers that pass each channel; and for one target the paths
+/// to it, and how many of these routes pass each switch.
 #[derive(Drop)]
 pub struct Loads {
     loads: Table<u64>,
-    /// The ways to the target.
+    /// The paths to the target.
     pub ways: Ways,
-    /// How many routes to the target pass each switch that has a way.
+    /// The number of routes to the target that pass each switch with a path.
     pub flows: Table<u32>,
 }
 
@@ -38,7 +38,10 @@ fn pass_all(
 }
 
 impl Loads {
-    /// No routes.
+    /// Creates the loads of no routes.
+    ///
+    /// # Errors
+    /// `OutOfMemory`.
     pub fn new(alloc: Global, channels: &Channels) -> Result<Loads, OutOfMemory> {
         Ok(Loads {
             loads: Table::filled(alloc, channels.count(), 0u64)?,
@@ -47,36 +50,42 @@ impl Loads {
         })
     }
 
-    /// How many routes pass a channel.
+    /// Returns the number of routes that pass `channel`.
     #[inline]
     pub fn of(&self, channel: Channel) -> u64 {
         self.loads.get(channel)
     }
 
-    /// Lets a flow come to a channel or go from it.
+    /// Adds `flow` to the load of `channel`, or removes it.
     #[inline]
     pub fn change(&mut self, channel: Channel, flow: u32, change: Change) {
         self.loads.change(channel, u64::from(flow), change);
     }
 
-    /// Finds how many routes pass each switch.
+    /// Counts the routes that pass each switch.
     pub fn gather(&mut self, plan: Plan<'_>) {
         self.ways
             .gather(plan.channels, plan.demand, &mut self.flows);
     }
 
-    /// Lets the routes over the ways come or go.
+    /// Adds the routes over the current paths to the loads, or removes them.
     pub fn change_all(&mut self, plan: Plan<'_>, change: Change) {
         self.ways.begin(plan.demand, &mut self.flows);
         pass_all(plan, &self.ways, &mut self.flows, &mut self.loads, change);
     }
 
-    /// Makes shortest ways to a switch by a rule, over channels with small loads.
+    /// Makes shortest paths to the switch `target` by `rule`, over channels with low loads.
+    ///
+    /// # Errors
+    /// `OutOfMemory`.
     pub fn grow(&mut self, plan: Plan<'_>, rule: Rule<'_>, target: u32) -> Result<(), OutOfMemory> {
         self.ways.grow(plan.channels, rule, &self.loads, target)
     }
 
-    /// Takes a row of exits as the ways to a switch.
+    /// Takes the exits of row `row` as the paths to the switch `target`.
+    ///
+    /// # Errors
+    /// `OutOfMemory`.
     pub fn take(
         &mut self,
         plan: Plan<'_>,
@@ -88,7 +97,7 @@ impl Loads {
         self.ways.arrange(plan.channels, target)
     }
 
-    /// How many routes pass all channels together.
+    /// Returns the sum of the loads of all channels.
     pub fn sum(&self) -> u64 {
         let mut sum = 0u64;
         'channels: for number in 0..self.loads.count() {
@@ -97,7 +106,7 @@ impl Loads {
         sum
     }
 
-    /// The most that pass one.
+    /// Returns the maximum link load.
     pub fn greatest(&self) -> u64 {
         let mut greatest = 0;
         'channels: for number in 0..self.loads.count() {

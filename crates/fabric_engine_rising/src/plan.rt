@@ -1,4 +1,4 @@
-//! What routes are laid for.
+//! The plan by which routes are laid.
 
 use fabric_engine_channels::channels::{Channel, Channels};
 use fabric_engine_channels::demand::{Demand, Target};
@@ -6,8 +6,8 @@ use fabric_engine_channels::order::Order;
 use fabric_engine_channels::ways::{FAR, Ways};
 use fabric_model::traffic::Traffic;
 
-/// What routes are laid for: the channels of a fabric and its end ports, the order along which they rise, and the
-/// traffic that is to arrive.
+/// The plan by which routes are laid: the channels of a fabric and its end ports, the order along which routes rise,
+/// and the traffic that must arrive.
 #[derive(Clone, Copy)]
 pub struct Plan<'a> {
     /// The channels of the fabric.
@@ -18,12 +18,12 @@ pub struct Plan<'a> {
     pub order: &'a Order,
     /// The traffic.
     pub traffic: Traffic,
-    /// The most channels that a route is to have.
+    /// The highest number of channels that a route should have.
     pub most: u32,
 }
 
-/// Whether routes of a traffic to a target begin at all switches, and not only at those with end ports of adapters and
-/// routers. `Rows` is as `All`: no tables that are made have rows for LIDs that nobody owns.
+/// Reports whether routes of `traffic` to `target` begin at all switches, and not only at those with end ports of
+/// adapters and routers. `Rows` counts as `All`, because tables that the engine makes have no rows for unowned LIDs.
 pub fn is_from_all(traffic: Traffic, target: Target) -> bool {
     match traffic {
         Traffic::Hosts | Traffic::Lids => false,
@@ -32,7 +32,7 @@ pub fn is_from_all(traffic: Traffic, target: Target) -> bool {
     }
 }
 
-/// Whether routes of a traffic lead to a target.
+/// Reports whether routes of `traffic` lead to `target`.
 pub fn sends_to(traffic: Traffic, target: Target) -> bool {
     match traffic {
         Traffic::Hosts => target.is_host(),
@@ -41,30 +41,30 @@ pub fn sends_to(traffic: Traffic, target: Target) -> bool {
 }
 
 impl Plan<'_> {
-    /// Whether routes of the traffic to some target at a switch begin at all switches.
+    /// Reports whether routes of the traffic to at least one target at `switch` begin at all switches.
     pub fn is_from_all(self, switch: u32) -> bool {
         let mut targets = self.demand.targets_at(switch).iter();
         targets.any(|target| is_from_all(self.traffic, *target))
     }
 
-    /// Whether routes of the traffic lead to a target.
+    /// Reports whether routes of the traffic lead to `target`.
     pub fn sends_to(self, target: Target) -> bool {
         sends_to(self.traffic, target)
     }
 
-    /// Whether routes of the traffic lead to a target at a switch.
+    /// Reports whether routes of the traffic lead to at least one target at `switch`.
     pub fn sends_to_some(self, switch: u32) -> bool {
         let mut targets = self.demand.targets_at(switch).iter();
         targets.any(|target| self.sends_to(*target))
     }
 
-    /// To how many targets at a switch routes of the traffic lead.
+    /// Returns the number of targets at `switch` to which routes of the traffic lead.
     pub fn sent_to(self, switch: u32) -> u64 {
         let targets = self.demand.targets_at(switch).iter();
         targets.filter(|target| self.sends_to(**target)).count() as u64
     }
 
-    /// From how many switches routes of the traffic to a target begin that have no way.
+    /// Returns the number of switches without a path at which routes of the traffic to `target` begin.
     pub fn missing(self, ways: &Ways, target: u32) -> u64 {
         let is_from_all = self.is_from_all(target);
         let mut missing = 0u64;
@@ -77,7 +77,7 @@ impl Plan<'_> {
         missing
     }
 
-    /// The most channels on the way of a switch with end ports of adapters and routers.
+    /// Returns the highest number of channels on the path of a switch with end ports of adapters and routers.
     pub fn longest(self, ways: &Ways) -> u32 {
         let mut longest = 0;
         'leaves: for leaf in self.demand.leaves() {
@@ -89,12 +89,12 @@ impl Plan<'_> {
         longest
     }
 
-    /// Whether there are targets at a switch, and the traffic has routes to none of them.
+    /// Reports whether there are targets at `switch`, and the traffic has routes to none of them.
     pub fn leaves_out(self, switch: u32) -> bool {
         !self.demand.targets_at(switch).is_empty() && !self.sends_to_some(switch)
     }
 
-    /// Whether a channel may be an exit: it leads to the target, or the turn from it to the exit there rises.
+    /// Reports whether `channel` can be an exit: it leads to the target, or the turn from it to the exit there rises.
     #[inline]
     pub fn may_follow(self, ways: &Ways, target: u32, channel: Channel) -> bool {
         let to = self.channels.to(channel);
@@ -107,7 +107,7 @@ impl Plan<'_> {
         }
     }
 
-    /// One more than the greatest place of the exits that lead to a switch: its own exit may not stand before.
+    /// Returns one more than the highest index of the exits that lead to `switch`: its own exit must not come earlier.
     pub fn least_place(self, ways: &Ways, switch: u32) -> u32 {
         let mut least = 0;
         'exits: for number in self.channels.exits(switch) {

@@ -1,4 +1,4 @@
-//! Ways turned so that more switches can join them.
+//! Paths turned so that more switches can join them.
 
 use crate::plan::Plan;
 use common_values::memory::OutOfMemory;
@@ -21,8 +21,8 @@ fn last_exit(plan: Plan<'_>, ways: &Ways, target: u32, switch: u32, own: Channel
     last
 }
 
-/// Gives to each switch the last exit in the order of those that lead nearer by one. All turns rise after it that rose
-/// before, and more would: those to the exit from channels before it. No way grows longer.
+/// Gives each switch the last exit, in the order, of those that lead one channel nearer. All turns that rose before
+/// still rise, and more would: those from earlier channels to the exit. No path grows longer.
 pub fn raise(plan: Plan<'_>, ways: &mut Ways, target: u32) {
     'nearest: for place in 0..plan.channels.switches() {
         let Some(switch) = ways.nearest().get(place as usize).copied() else {
@@ -52,7 +52,11 @@ fn extend_over(
     Ok(())
 }
 
-/// Adds switches that have no way, by exits to those that have one. The nearest are not in their order after it.
+/// Adds switches without a path, with exits to switches that have one. Afterwards the nearest switches are not in their
+/// order.
+///
+/// # Errors
+/// `OutOfMemory`.
 pub fn extend(plan: Plan<'_>, ways: &mut Ways, target: u32) -> Result<(), OutOfMemory> {
     'nearest: for place in 0..plan.channels.switches() {
         let Some(switch) = ways.nearest().get(place as usize).copied() else {

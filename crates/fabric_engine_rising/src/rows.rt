@@ -8,7 +8,8 @@ use std::alloc::Global;
 // What stands for no exit: no switch has so many channels.
 const NO_EXIT: u8 = 255;
 
-/// Rows of exits, one exit or none for each switch: a byte each, its place among the channels of the switch.
+/// Rows of exits, one exit or none for each switch: a byte each, the index of the exit among the channels of the
+/// switch.
 #[derive(Drop)]
 pub struct Rows {
     switches: u32,
@@ -16,7 +17,10 @@ pub struct Rows {
 }
 
 impl Rows {
-    /// So many rows without exits.
+    /// Creates `rows` rows without exits.
+    ///
+    /// # Errors
+    /// `OutOfMemory`.
     pub fn new(alloc: Global, rows: u32, switches: u32) -> Result<Rows, OutOfMemory> {
         let count = (rows as usize).saturating_mul(switches as usize);
         let bytes = vec![in alloc; NO_EXIT; count]?;
@@ -31,7 +35,7 @@ impl Rows {
             .wrapping_add(switch as usize)
     }
 
-    /// The exit of a switch in a row.
+    /// Returns the exit of `switch` in row `row`.
     #[inline]
     pub fn exit(&self, channels: &Channels, row: u32, switch: u32) -> Option<Channel> {
         let byte = self.bytes.get(self.place(row, switch)).copied()?;
@@ -51,14 +55,14 @@ impl Rows {
         }
     }
 
-    /// Puts the exits of ways into a row.
+    /// Stores the exits of `ways` in row `row`.
     pub fn keep(&mut self, channels: &Channels, row: u32, ways: &Ways) {
         'switches: for switch in 0..self.switches {
             self.put(channels, row, switch, ways.exit(switch));
         }
     }
 
-    /// Makes ways of a row.
+    /// Sets `ways` to the exits of row `row`.
     pub fn take(&self, channels: &Channels, row: u32, ways: &mut Ways) {
         'switches: for switch in 0..self.switches {
             ways.put_exit(switch, self.exit(channels, row, switch));

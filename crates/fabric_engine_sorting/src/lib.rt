@@ -1,7 +1,8 @@
-//! An order of the channels of a fabric that is changed so that more and more turns rise in it, and how much may be done
-//! for that.
+//! fabric, routing engine: a local search that changes an order of the channels so that more and more turns rise in it,
+//! and a limit on its effort.
 //!
-//! It stands on `an_base` and `fabric_engine_channels`. No contract speaks of it, as of that.
+//! The crate depends on `fabric_engine_channels`, and has no contract either: we prove only that each call returns,
+//! that no number overflows, and that no index is out of range.
 #![tactic(auto)]
 
 pub mod effort;

@@ -1,4 +1,4 @@
-//! An order of the channels that is changed so that more and more turns rise.
+//! An order of the channels that changes so that more and more turns rise.
 
 use crate::effort::Effort;
 use common_values::memory::OutOfMemory;
@@ -21,7 +21,7 @@ pub struct Sorting {
     free: Vec<u32>,
 }
 
-/// A turn that is to be added: its two channels, and how much it weighs.
+/// A turn to be added: its two channels, and its weight.
 #[derive(Clone, Copy)]
 pub struct Wanted {
     channel: Channel,
@@ -52,7 +52,10 @@ fn find_wanted(
     Ok(())
 }
 
-/// All turns that weigh something and were not added, the heaviest first.
+/// Returns all turns that have a weight and were not added, the heaviest first.
+///
+/// # Errors
+/// `OutOfMemory`.
 pub fn heaviest(
     alloc: Global,
     channels: &Channels,
@@ -68,7 +71,10 @@ pub fn heaviest(
 }
 
 impl Sorting {
-    /// An order, to which no turn was added.
+    /// Creates the search from `order`, without added turns.
+    ///
+    /// # Errors
+    /// `OutOfMemory`.
     pub fn of(alloc: Global, channels: &Channels, order: &Order) -> Result<Sorting, OutOfMemory> {
         let mut places = Table::filled(alloc, channels.count(), 0u32)?;
         'channels: for number in 0..channels.count() {
@@ -231,7 +237,11 @@ impl Sorting {
         Ok(may_rise)
     }
 
-    /// Adds a turn, if it can rise with all that were added. Answers whether it does.
+    /// Adds the turn from `channel` to `next`, if it can rise together with all added turns, and returns whether it
+    /// does.
+    ///
+    /// # Errors
+    /// `OutOfMemory`.
     pub fn add(
         &mut self,
         channels: &Channels,
@@ -246,7 +256,7 @@ impl Sorting {
         Ok(rises)
     }
 
-    /// Which turns were added.
+    /// Returns which turns were added.
     pub fn added(&self) -> &Table<bool> {
         &self.turns
     }
@@ -262,14 +272,17 @@ impl Sorting {
         }
     }
 
-    /// Adds all turns that weigh something and rise.
+    /// Adds all turns that have a weight and rise.
     pub fn add_rising(&mut self, channels: &Channels, weights: &Table<u32>) {
         'channels: for number in 0..channels.count() {
             self.add_rising_after(channels, weights, Channel(number));
         }
     }
 
-    /// Adds turns, each if it can rise with those before. Answers which could not.
+    /// Adds each of the turns `wanted` that can rise together with those before, and returns the turns that cannot.
+    ///
+    /// # Errors
+    /// `OutOfMemory`.
     pub fn add_all(
         &mut self,
         alloc: Global,
@@ -287,7 +300,10 @@ impl Sorting {
         Ok(refused)
     }
 
-    /// The order.
+    /// Returns the order.
+    ///
+    /// # Errors
+    /// `OutOfMemory`.
     pub fn order(&self, alloc: Global) -> Result<Order, OutOfMemory> {
         let mut sequence = Vec::with_capacity(alloc, self.places.count() as usize)?;
         'channels: for number in 0..self.places.count() {

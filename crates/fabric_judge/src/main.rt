@@ -1,6 +1,7 @@
-//! The program of `judge`, `ranks`, `verify` and `dot` alone, which is proved and built long before that of all commands.
+//! fabric, commands: the small program with only `judge`, `ranks`, `verify` and `dot`, which is proved and built long
+//! before the program with all commands.
 //!
-//! It has no contract of its own: what it prints, and its status, are those of the call.
+//! It has no contract of its own: its output and its exit status are those of the call.
 #![tactic(auto)]
 
 use common_call::words::words_of_call;

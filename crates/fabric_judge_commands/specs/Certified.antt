@@ -26,7 +26,7 @@ use Rattle.fabric_call.specs.declared.status.Status.TheVariants.{Cycle, Ok, Rank
 use Rattle.fabric_judge_commands.specs.Judged.{IsEndOf, IsJudged, step_of}
 use Rattle.fabric_judge_commands.specs.Words.{traffic_word}
 
--- the rank of the channel out of a port, as an answer tells it
+-- the rank of the channel out of a port, as the output has it
 abbrev pub rank_of : FabricOf → Spot → ℕ → Rank
 rank_of fabric spot rank =
     record { guid = guid_of fabric (Switch spot.switch); port = spot.port; rank = rank }
@@ -40,15 +40,15 @@ ranks_of fabric ranks =
     flat_map (λ place. rank_at fabric ranks (spot_at fabric.most place))
     (range_with_len 0 (switch_count fabric * fabric.most))
 
--- GUIDs and ranks are below what words of the program hold
+-- GUIDs are below 2^64 and ranks below 2^32
 abbrev pub AreSmall : FabricOf → List ℕ → Type 0
 AreSmall fabric ranks =
     (place rank : ℕ) → place < switch_count fabric * fabric.most
     → rank_in fabric ranks (channel_of (spot_at fabric.most place)) ≡ Some rank
     → (guid_of fabric (Switch (place / fabric.most)) < 2 ^ 64) × (rank < 2 ^ 32)
 
--- There is no credit loop, and what is written are the ranks of the channels. Read again, it is the text of ranks, and
--- they fall along each dependency.
+-- There is no credit loop, and `written` is the text of the ranks of the channels. Read again, it is a text
+-- of ranks that fall along every dependency.
 pub record TellsRanks (fabric : FabricOf) (tables : TablesOf) (traffic : Traffic) (status : Status) (written : List ℕ)
     : Type 0 where
   pub ends : IsEndOf fabric tables traffic status
@@ -59,13 +59,13 @@ pub record TellsRanks (fabric : FabricOf) (tables : TablesOf) (traffic : Traffic
   pub reads : IsRanksText fabric written told
   pub falls : Fall fabric tables traffic told
 
--- `ranks` tells them, or, if there is a credit loop, what `judge` does
+-- `ranks` writes the ranks, or, if there is a credit loop, the output of `judge`
 abbrev pub AreRanksTold : Traffic → List ℕ → FabricOf → Tables → Status → List ℕ → Type 0
 AreRanksTold traffic text fabric found status written =
     TellsRanks fabric (tables_of found.cells) traffic status written
     ⊎ ((status ≡ Cycle) × IsJudged traffic text fabric found status written)
 
--- a dependency along which ranks do not fall, as an answer tells it
+-- a dependency along which ranks do not fall, as the output has it
 abbrev pub risen_of : FabricOf → Rise → Risen
 risen_of fabric rise =
     record {
@@ -74,7 +74,7 @@ risen_of fabric rise =
       next = rank_of fabric rise.next rise.next_rank;
     }
 
--- the status if ranks fall: there is no credit loop, and each route arrives, or one is stopped
+-- the exit status: if ranks fall, there is no credit loop, and either every route arrives or one is stopped
 abbrev pub IsEndBy : FabricOf → TablesOf → Traffic → Option Rise → Status → Type 0
 IsEndBy fabric tables traffic None status =
     HasNoCycle (DependsOn fabric tables traffic)
@@ -82,7 +82,7 @@ IsEndBy fabric tables traffic None status =
     ⊎ ((status ≡ RoutesLost) × SomeIsStopped fabric tables traffic))
 IsEndBy fabric tables traffic (Some rise) status = status ≡ RanksRise
 
--- the bytes are the text of ranks, and it is told whether they fall
+-- `bytes` are a text of ranks, and the output says whether they fall
 pub record AreRanksJudged (traffic : Traffic) (bytes : List ℕ) (fabric : FabricOf) (tables : TablesOf) (status : Status)
     (written : List ℕ)
     : Type 0 where
@@ -93,7 +93,7 @@ pub record AreRanksJudged (traffic : Traffic) (bytes : List ℕ) (fabric : Fabri
   pub ends : IsEndBy fabric tables traffic found.rise status
   pub says : written ≡ verified_text (traffic_word traffic) (option_map (risen_of fabric) found.rise)
 
--- or they are none, by their first fault, and nothing is written
+-- `bytes` are not a text of ranks, because of their first error, and nothing is written
 pub record AreNoRanks (bytes : List ℕ) (fabric : FabricOf) (status : Status) (written : List ℕ) : Type 0 where
   pub line : ℕ
   pub cause : RanksCause

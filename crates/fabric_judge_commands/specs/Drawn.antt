@@ -19,7 +19,7 @@ use Rattle.fabric_judge_commands.specs.Judged.{IsEndOf, IsLoop, step_of}
 use Rattle.fabric_judge_commands.specs.Names.{names_for}
 use Rattle.fabric_judge_commands.specs.Words.{traffic_word}
 
--- a channel as an arrow, to the switch to which it leads; there is none if it leads to no switch
+-- a channel as an arrow to the switch to which it leads; none if it leads to no switch
 abbrev pub arrow_over : FabricOf → LoopChannel → Side → List Arrow
 arrow_over fabric one (To next entry) =
     record { step = step_of fabric one; to = guid_of fabric (Switch next); entry = entry } ∷ []
@@ -32,18 +32,18 @@ arrow_at fabric one = arrow_over fabric one (side_of fabric one.channel.switch o
 abbrev pub arrows_of : FabricOf → List LoopChannel → List Arrow
 arrows_of fabric = flat_map (arrow_at fabric)
 
--- the switches of arrows, each once
+-- the switches of the arrows, each once
 abbrev pub arrow_switches : List Arrow → List ℕ
 arrow_switches arrows = insert_all nat_eq [] (map (λ arrow. arrow.step.guid) arrows)
 
--- a picture of the channels of a loop, with the names of their switches
+-- `picture` shows the channels of `loop`, with the names of their switches
 pub record IsPictureOf (traffic : Traffic) (text : List ℕ) (fabric : FabricOf) (loop : List LoopChannel) (picture : Picture)
     : Type 0 where
   pub traffic_is : picture.traffic.now ≡ traffic_word traffic
   pub arrows : picture.arrows.items ≡ arrows_of fabric loop
   pub names : picture.names.items ≡ names_for text (arrow_switches picture.arrows.items)
 
--- the picture of the least credit loop, or of none if there is none
+-- the picture of the least credit loop, or of no loop if there is none
 pub record IsDrawn (traffic : Traffic) (text : List ℕ) (fabric : FabricOf) (found : Tables) (status : Status)
     (written : List ℕ)
     : Type 0 where

@@ -7,8 +7,8 @@ use Rattle.fabric_judge_commands.specs.Certified.{AreRanksTold, AreRanksVerified
 use Rattle.fabric_judge_commands.specs.Drawn.{IsDrawn}
 use Rattle.fabric_judge_commands.specs.Judged.{IsJudged}
 
--- `judge` gives the verdict on the routes of a traffic, `ranks` the ranks, `verify` whether those of some bytes fall,
--- `dot` a picture
+-- `judge` gives the verdict on the routes of a traffic, `ranks` the ranks, `verify` whether the ranks in some
+-- bytes fall, and `dot` a picture
 abbrev pub gives_judged : Traffic → Gives
 gives_judged traffic text fabric found status written = IsJudged traffic text fabric found status written
 

@@ -34,8 +34,9 @@ use Rattle.fabric_call.specs.declared.status.Status.TheVariants.{Ok, RoutesLost,
 use Rattle.fabric_judge_commands.specs.Names.{mentioned, names_for}
 use Rattle.fabric_judge_commands.specs.Words.{traffic_word}
 
--- What the statuses 0, 7 and 8 mean: there is no credit loop, as ranks of the channels show, and each route of the
--- traffic arrives; there is none, but a route is stopped; there is one.
+-- What the exit statuses 0, 7 and 8 mean: 0, there is no credit loop, as ranks of the channels show, and
+-- every route of the traffic arrives; 7, there is no credit loop, but a route is stopped; 8, there is a
+-- credit loop.
 abbrev pub IsEndOf : FabricOf → TablesOf → Traffic → Status → Type 0
 IsEndOf fabric tables traffic Ok = (ranks : List ℕ) × Passes fabric tables traffic ranks
 IsEndOf fabric tables traffic RoutesLost =
@@ -52,7 +53,7 @@ pub record IsRead (fabric : FabricOf) (found : Tables) (read : Read) : Type 0 wh
   pub rows : read.rows ≡ found.rows
   pub unowned : read.unowned ≡ found.unowned
 
--- how many routes to LIDs that nobody owns arrive, if the traffic has such routes
+-- `many`, the number of routes that arrive at LIDs that nobody owns, if the traffic has such routes
 abbrev pub unowned_told : Traffic → ℕ → Option ℕ
 unowned_told Hosts many = None
 unowned_told Lids many = None
@@ -69,12 +70,12 @@ routes_of traffic counts =
       unowned = unowned_told traffic counts.unowned;
     }
 
--- the least credit loop, or no channels if there is none
+-- the channels are the least credit loop, or none if there is no loop
 abbrev pub IsLoop : FabricOf → TablesOf → Traffic → List LoopChannel → Type 0
 IsLoop fabric tables traffic [] = HasNoCycle (DependsOn fabric tables traffic)
 IsLoop fabric tables traffic (one ∷ rest) = CycleIs fabric tables traffic (one ∷ rest)
 
--- a channel of a credit loop, with the route that takes it and the next one
+-- a channel of a credit loop, with the route that takes it and then, directly, the next one
 abbrev pub step_of : FabricOf → LoopChannel → LoopStep
 step_of fabric one =
     record {
@@ -84,7 +85,7 @@ step_of fabric one =
       source = guid_of fabric one.witness.source;
     }
 
--- how many routes are lost, by cause
+-- the numbers of lost routes, by reason
 abbrev pub losses_of : Losses → LostCounts
 losses_of lost =
     record {
@@ -95,7 +96,7 @@ losses_of lost =
       looping = lost.looping.count;
     }
 
--- the least route that is lost by a cause, as an answer tells it
+-- the least route that is lost for a reason, as the output has it
 abbrev pub lost_route : FabricOf → WhyLost → LostRoute → Lost
 lost_route fabric cause route =
     record {
@@ -105,17 +106,17 @@ lost_route fabric cause route =
       at = guid_of fabric (Switch route.at);
     }
 
--- none if no route is lost by it
+-- the least route that is lost for this reason, or none
 abbrev pub lost_by : FabricOf → WhyLost → Loss → List Lost
 lost_by fabric cause loss = option_to_list (option_map (lost_route fabric cause) loss.least)
 
--- those of all causes, in this order
+-- the least routes that are lost, for all reasons in this order
 abbrev pub lost_of : FabricOf → Losses → List Lost
 lost_of fabric lost =
     lost_by fabric Missing lost.missing ++ lost_by fabric Dead lost.dead ++ lost_by fabric Wrong lost.wrong
     ++ lost_by fabric Loop lost.looping
 
--- each part of the answer
+-- each part of the output
 pub record IsAnswerFor (asked : Traffic) (text : List ℕ) (fabric : FabricOf) (found : Tables)
     (answer : Answer)
     : Type 0 where
@@ -134,7 +135,7 @@ pub record IsAnswerFor (asked : Traffic) (text : List ℕ) (fabric : FabricOf) (
   pub unset : answer.unset ≡ unset_of text
   pub names : answer.names.items ≡ names_for text (mentioned answer.cycle.items answer.lost.items)
 
--- the status means what is so of the tables, and what is written is the text of their answer
+-- the exit status is right for the tables, and `written` is the text of their output
 pub record IsJudged (traffic : Traffic) (text : List ℕ) (fabric : FabricOf) (found : Tables)
     (status : Status) (written : List ℕ)
     : Type 0 where

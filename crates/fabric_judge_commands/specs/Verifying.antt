@@ -1,4 +1,4 @@
--- What `verify` was asked.
+-- The question to `verify`.
 use Rattle.std.specs.Prelude.{ℕ, List}
 use Rattle.fabric_model.specs.declared.traffic.Traffic.{Traffic}
 

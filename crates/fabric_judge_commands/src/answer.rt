@@ -1,4 +1,4 @@
-//! The answer for a fabric and its tables.
+//! The output for a fabric and its tables.
 
 ghost use Rattle.std.specs.Prelude.{◌≡◌, IfOk};
 ghost use Rattle.fabric_tables.specs.Cells.{TablesOf, tables_of};
@@ -27,7 +27,7 @@ use fabric_verdict::links::count_links;
 use fabric_verdict::verdict::{LoopChannel, Verdict};
 use std::alloc::Global;
 
-/// How a call ends whose answer was written.
+/// Returns how a call ends after its output was written.
 pub fn status_of(judged: &Judgement) -> Status
     ensures { (fabric : FabricOf) (tables : TablesOf) (traffic : Traffic)
         → IsJudgement fabric tables traffic judged.now → IsEndOf fabric tables traffic result }
@@ -43,7 +43,11 @@ pub fn status_of(judged: &Judgement) -> Status
     }
 }
 
-/// The answer for tables of a fabric, which were judged.
+/// Builds the output for `tables`, of which `judged` is the judgement. The caller must pass tables and a judgement of
+/// this fabric.
+///
+/// # Errors
+/// `OutOfMemory`.
 pub fn answer_for(
     alloc: Global,
     topology: &Topology,
@@ -75,7 +79,7 @@ pub fn answer_for(
     })
 }
 
-/// The channels of the credit loop, none if there is no loop.
+/// Returns the channels of the credit loop, or none if there is no loop.
 pub fn cycle_of(judged: &Judgement) -> &[LoopChannel]
     ensures { (fabric : FabricOf) (tables : TablesOf) (traffic : Traffic)
         → IsJudgement fabric tables traffic judged.now → IsLoop fabric tables traffic result.now }
@@ -86,7 +90,7 @@ pub fn cycle_of(judged: &Judgement) -> &[LoopChannel]
     }
 }
 
-/// What was read, with so many links between switches.
+/// Returns what was read, if `links` is the number of links between switches.
 pub fn read_of(fabric: &Fabric, tables: &Tables, links: u64) -> Read
     ensures { IsLinkCount fabric.now links → IsRead fabric.now tables.now result }
 {
@@ -110,7 +114,7 @@ fn routes_of(traffic: Traffic, counts: Counts) -> Routes
     }
 }
 
-/// How many routes to LIDs that nobody owns arrive, if the traffic has such routes.
+/// Returns `many`, the number of routes that arrive at LIDs that nobody owns, if the traffic has such routes.
 pub fn unowned_told(traffic: Traffic, many: u64) -> Option<u64>
     ensures { result ≡ unowned_told traffic many }
 {

@@ -23,7 +23,7 @@ use fabric_verdict::verdict::LoopChannel;
 use indexmap::IndexSet;
 use std::alloc::Global;
 
-/// The command `dot`: the credit loop as a picture, or one that says that there is none.
+/// The command `dot`: the credit loop as a picture, or a picture that says that there is none.
 #[derive(Clone, Copy)]
 pub struct Dot {
     /// The traffic.
@@ -93,7 +93,7 @@ fn push_arrow(arrows: &mut Vec<Arrow>, fabric: &Fabric, one: LoopChannel) -> Res
     Ok(())
 }
 
-/// A channel as an arrow, or None if it leads to no switch.
+/// Returns a channel as an arrow, or `None` if it leads to no switch.
 pub fn arrow_for(fabric: &Fabric, one: LoopChannel) -> Option<Arrow>
     ensures { option_to_list result ≡ arrow_at fabric.now one }
 {

@@ -1,4 +1,4 @@
-//! What the answers of `ranks` and `verify` come to. No function here has code.
+//! What the outputs of `ranks` and `verify` mean. No function here has code.
 
 ghost use Rattle.std.specs.Prelude.{◌≡◌, ℕ, List, None};
 ghost use Rattle.fabric_tables.specs.Cells.{tables_of};
@@ -10,8 +10,8 @@ ghost use Rattle.fabric_call.specs.declared.status.Status.{Status};
 ghost use Rattle.fabric_judge_commands.specs.Certified.{AreRanksVerified, IsEndBy, TellsRanks};
 ghost use Rattle.fabric_judge_commands.specs.Words.{traffic_word};
 
-/// What `ranks` writes if there is no credit loop, `verify` accepts: it answers that the ranks fall, with the
-/// status of tables without a credit loop.
+/// Proves that `verify` accepts what `ranks` writes if there is no credit loop: it reports that the ranks fall, with
+/// the exit status of tables without a credit loop.
 pub fn ranks_are_accepted()
     ensures { (traffic : Traffic) (text : List ℕ) (fabric : FabricOf) (found : Tables) (status again : Status)
         (written answer : List ℕ)

@@ -1,9 +1,10 @@
-//! The commands of `fabric` over a topology and tables: `judge`, `ranks`, `verify` and `dot`.
+//! fabric, commands: `judge`, `ranks`, `verify` and `dot`, over a topology and tables.
 //!
-//! It stands on `fabric_call`, which reads and writes, on the verdict, on the counts of routes, and on the text of an
-//! answer. Its one contract: what each command gives for the text of a topology, its fabric and tables. `specs/Judged`
-//! says each part of the answer of `judge`: its status 0 means that there is no credit loop and that each route of the
-//! traffic arrives, 7 that there is none and that a route is stopped, and 8 that there is one.
+//! The crate depends on `fabric_call`, which reads and writes, on `fabric_verdict` and `fabric_counts`, and on
+//! `fabric_print`. Its one contract: what each command gives for the text of a topology, its fabric and its tables.
+//! `specs/Judged` says each part of the output of `judge`: exit status 0 means that there is no credit loop and every
+//! route of the traffic arrives, 7 that there is no credit loop but a route is stopped, and 8 that there is a credit
+//! loop.
 #![tactic(auto)]
 
 pub mod answer;

@@ -11,7 +11,8 @@ use fabric_model::node::EndPort;
 use fabric_print::answer::{Lost, LostCounts, WhyLost};
 use std::alloc::Global;
 
-/// How many routes are lost, by cause.
+/// Returns the numbers of lost routes, by reason. The caller must pass `counts` in which the routes that arrive and
+/// those that are lost make up all routes.
 pub fn losses_of(counts: Counts) -> LostCounts
     requires { counts.routes ≡ counts.arrived + sum_of counts.lost }
     ensures { result ≡ losses_of counts.lost }
@@ -25,7 +26,10 @@ pub fn losses_of(counts: Counts) -> LostCounts
     }
 }
 
-/// The least lost route of each cause that occurs.
+/// Returns the least lost route for each reason that occurs.
+///
+/// # Errors
+/// `OutOfMemory`.
 pub fn lost_of(alloc: Global, fabric: &Fabric, counted: Losses) -> Result<Vec<Lost>, OutOfMemory>
     ensures { IfOk result (λ lost. lost.items ≡ lost_of fabric.now counted) }
 {

@@ -1,4 +1,4 @@
-//! The names of the nodes of an answer.
+//! The names of the nodes in an output.
 
 ghost use Rattle.std.specs.Prelude.{◌≡◌, ◌++◌, OnOk, IfOk, nat_eq, option_copied};
 ghost use Rattle.indexmap.specs.IndexSet.{insert_key};
@@ -11,8 +11,11 @@ use fabric_topology::names::names_of;
 use indexmap::IndexSet;
 use std::alloc::Global;
 
-/// The names that the text of a topology tells of the nodes of these steps and lost routes, each once, in the order in
-/// which they stand there.
+/// Returns the names that the topology `text` gives to the nodes of `steps` and `lost`, each once, in the order in
+/// which they occur there.
+///
+/// # Errors
+/// `OutOfMemory`.
 pub fn names_in(
     alloc: Global,
     text: &[u8],
@@ -25,7 +28,10 @@ pub fn names_in(
     names_for(alloc, text, &guids)
 }
 
-/// The names that the text of a topology tells of the nodes of these GUIDs, in the order of the GUIDs.
+/// Returns the names that the topology `text` gives to the nodes with these GUIDs, in the order of `guids`.
+///
+/// # Errors
+/// `OutOfMemory`.
 pub fn names_for(
     alloc: Global,
     text: &[u8],
@@ -72,7 +78,10 @@ fn guids_in(alloc: Global, steps: &[LoopStep], lost: &[Lost]) -> Result<IndexSet
     Ok(guids)
 }
 
-/// Adds two nodes to some, each if it is not among them.
+/// Adds `one` and `other` to `guids`, each unless it is there already.
+///
+/// # Errors
+/// `OutOfMemory`.
 pub fn insert_two(guids: &mut IndexSet<u64>, one: u64, other: u64) -> Result<(), OutOfMemory>
     ensures { OnOk result (guids.new.keys ≡ insert_key nat_eq (insert_key nat_eq guids.old.keys one) other) }
 {

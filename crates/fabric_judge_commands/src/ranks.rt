@@ -1,4 +1,4 @@
-//! The ranks of channels, as an answer tells them.
+//! The ranks of channels, as the output has them.
 
 ghost use Rattle.std.specs.Prelude.{◌≡◌, ◌++◌, ◌<◌, ◌*◌, ◌/◌, ◌^◌, ℕ, Some, IfOk, OnOk, slice_get};
 ghost use Rattle.fabric_model.specs.declared.node.EndPort.TheVariants.{Switch};
@@ -17,7 +17,10 @@ use fabric_verdict::verdict::LoopChannel;
 use fabric_verdict::verify::Rise;
 use std::alloc::Global;
 
-/// The ranks of the channels, by switch, then by port.
+/// Returns the ranks of the channels, by switch and then by port.
+///
+/// # Errors
+/// `OutOfMemory`.
 pub fn ranks_of(alloc: Global, fabric: &Fabric, ranks: &[u32]) -> Result<Vec<Rank>, OutOfMemory>
     ensures told { IfOk result (λ told. told.items ≡ ranks_of fabric.now ranks.now) }
     ensures small { IfOk result (λ _. AreSmall fabric.now ranks.now) }
@@ -82,7 +85,7 @@ fn rank_of(fabric: &Fabric, spot: Spot, rank: u32) -> Rank
     }
 }
 
-/// A dependency along which ranks do not fall.
+/// Returns a dependency along which ranks do not fall, as the output has it.
 pub fn risen_of(fabric: &Fabric, rise: Rise) -> Risen
     ensures { result ≡ risen_of fabric.now rise }
 {

@@ -1,4 +1,4 @@
-//! The dependencies of a credit loop, as an answer tells them.
+//! The dependencies of a credit loop, as the output has them.
 
 ghost use Rattle.std.specs.Prelude.{◌≡◌, map, IfOk};
 ghost use Rattle.fabric_judge_commands.specs.Judged.{step_of};
@@ -10,7 +10,11 @@ use fabric_print::answer::LoopStep;
 use fabric_verdict::verdict::LoopChannel;
 use std::alloc::Global;
 
-/// Of each channel of a loop the switch, the port, and the route that takes it and then the next one.
+/// Returns, for each channel of a loop, the switch, the port, and the route that takes it and then, directly, the next
+/// channel.
+///
+/// # Errors
+/// `OutOfMemory`.
 pub fn steps_of(
     alloc: Global,
     fabric: &Fabric,
@@ -25,7 +29,8 @@ pub fn steps_of(
     Ok(steps)
 }
 
-/// The same of one channel.
+/// Returns, for one channel of a loop, the switch, the port, and the route that takes it and then, directly, the next
+/// channel.
 pub fn step_of(fabric: &Fabric, one: LoopChannel) -> LoopStep
     ensures { result ≡ step_of fabric.now one }
 {

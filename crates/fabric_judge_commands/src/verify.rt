@@ -1,4 +1,4 @@
-//! The command `verify`: whether ranks from anywhere fall along each dependency.
+//! The command `verify`: whether ranks from anywhere fall along every dependency.
 
 ghost use Rattle.std.specs.Prelude.{◌≡◌, ℕ, List, IfOk};
 ghost use Rattle.std.specs.Option.{option_map};
@@ -28,12 +28,12 @@ use fabric_verdict::verify::{Rise, Verified, verify};
 use std::alloc::Global;
 use std::marker::Model;
 
-/// The command `verify`: what the routes of a traffic say of the bytes of ranks.
+/// The command `verify`: what the routes of a traffic say of ranks.
 #[derive(Drop)]
 pub struct Verify {
     /// The traffic.
     pub traffic: Traffic,
-    /// The bytes.
+    /// The bytes of the ranks.
     pub ranks: Vec<u8>,
 }
 

@@ -1,11 +1,11 @@
-//! The words of traffics.
+//! The words for traffics.
 
 ghost use Rattle.std.specs.Prelude.{◌≡◌};
 ghost use Rattle.fabric_judge_commands.specs.Words.{traffic_word};
 
 use fabric_model::traffic::Traffic;
 
-/// The word of a traffic.
+/// Returns the word for `traffic`.
 pub fn word_of(traffic: Traffic) -> &'static str
     ensures { result.now ≡ traffic_word traffic }
 {

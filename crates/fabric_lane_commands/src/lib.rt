@@ -1,15 +1,16 @@
-//! The commands `lanes` and `dot` of `fabric` over tables whose packets go on lanes, with service levels: the
-//! verdict, and the credit loop as a picture.
+//! fabric, commands: `lanes` and `dot` over tables whose packets use virtual lanes, by service level: the verdict, and
+//! the credit loop as a picture.
 //!
-//! It depends on the readers of lanes and of levels, on the verdict and the counts with lanes, on
-//! `fabric_call`, which reads the topology and tells statuses, on `fabric_judge_commands`, of which it takes what
-//! `judge` says alike, and on `fabric_print_lanes`. Its one contract is that of `command::answer`, by the status
-//! of a call:
+//! The crate depends on the readers of lanes and levels, on the verdict and the counts with lanes, on `fabric_call`,
+//! which reads the topology and reports how a call ended, on `fabric_judge_commands`, from which it takes what `judge`
+//! also prints, and on `fabric_print_lanes`. Its one contract is that of `command::answer`, by the exit status of a
+//! call:
 //!
-//! - 0, 6, 7 and 8: the bytes that the sources gave are the text of a fabric, of its tables, its lanes and, if a
-//!   file of them is asked for, its levels. Out gained exactly what the command gives for them.
-//!   `specs/LaneJudged` says each part of it for `lanes::lanes`, `specs/LaneDrawn` for `picture::draw_lanes`.
-//! - 3: out gained nothing. Err tells the first faulty line of the first wrong file, and its first cause.
+//! - 0, 6, 7 and 8: the bytes that the sources gave are the text of a fabric, of its tables, its lanes and, if the call
+//!   names a file of them, its levels. The command wrote exactly what it gives for them: `specs/LaneJudged` defines
+//!   each part of it for `lanes::lanes`, `specs/LaneDrawn` for `picture::draw_lanes`.
+//! - 3: the command wrote nothing to standard output. Standard error has the first line with an error of the first
+//!   invalid file, and its first reason.
 #![tactic(auto)]
 
 pub mod answer;

@@ -1,9 +1,10 @@
-//! How many routes with a service level there are, how many arrive on their lanes, and how many are lost by each cause.
+//! fabric, lanes: counts of the routes with a service level: how many there are, how many arrive on their lanes, and
+//! how many are lost, by reason.
 //!
-//! It stands on `an_base`, `fabric_model`, `fabric_tables`, `fabric_routes`, `fabric_counts`, `fabric_lane_tables` and `fabric_lane_routes`. Its one contract:
-//! `count::count_lane_routes` answers just the counts of `specs/LaneCounts`, with the greatest number of switches that a
-//! route goes through which arrives, how many of these go to LIDs that nobody owns, of each cause the least route that is
-//! lost by it and where, and how many pairs of an end port and a LID have no level.
+//! The crate depends on `fabric_counts` and `fabric_lane_routes`. Its one contract: `count::count_lane_routes` returns
+//! the counts of `specs/LaneCounts`, the highest number of switches on a route that arrives, how many of those routes
+//! go to LIDs that nobody owns, for each reason the least route that is lost for it, and where, and how many pairs of
+//! an end port and a LID have no level.
 #![tactic(auto)]
 
 mod alike;

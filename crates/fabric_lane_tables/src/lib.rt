@@ -1,9 +1,9 @@
-//! Lanes and service levels in little memory: equal rows are kept once.
+//! fabric, lanes: SL2VL tables and service levels in little memory: equal rows are kept once.
 //!
-//! It depends on `an_base`, `fabric_model` and `indexmap`. Its contract: `lanes` keeps the row of lanes that was
-//! told for a switch, a port in and a port out, and refuses another one; `levels` keeps the levels that
-//! were told for an end port and a LID; `in_use` adds those of replies, and the one of pairs that have none. Contracts
-//! see them as functions.
+//! The crate depends on `fabric_model` and `indexmap`. Its contract: `lanes` keeps the row of lanes given for a switch,
+//! an ingress port and an egress port, and rejects another row for them; `levels` keeps the levels given for an end
+//! port and a LID; `in_use` adds the levels of replies, and the level of pairs that have none. Contracts see all of
+//! them as functions.
 #![tactic(auto)]
 
 pub mod in_use;

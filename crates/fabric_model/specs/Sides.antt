@@ -1,4 +1,4 @@
--- What private functions cite: a side in four bytes, and the parts of a fabric.
+-- A side in four bytes, and the parts of a fabric. Only private functions cite this.
 use Rattle.std.specs.Prelude.{◌≡◌, ◌<◌, ◌-◌, ◌/◌, ◌%◌, ◌^◌, ℕ, List, length, if◌then◌else◌, nat_lt, map}
 use Rattle.fabric_model.specs.declared.node.Spot.{Spot}
 use Rattle.fabric_model.specs.declared.node.Side.{Side}
@@ -9,8 +9,8 @@ use Rattle.fabric_model.specs.declared.fabric.Parts.{Parts}
 use Rattle.fabric_model.specs.Fabric.{FabricOf, IsOther, side_of}
 use Rattle.fabric_model.specs.Nodes.{NodesOf}
 
--- to a port of a switch: the switch in the upper bytes, the port in the lowest; to an end port: from 2 ^ 30
--- on; to nothing: from 2 ^ 31 on
+-- the side that `word` encodes: a port of a switch has the switch in the upper bytes and the port in the
+-- lowest; an end port is encoded from 2 ^ 30 on, and a bare port from 2 ^ 31 on
 abbrev pub side_in : ℕ → Side
 side_in word = if nat_lt word (2 ^ 30)
     then To (word / 256) (word % 256)
@@ -19,19 +19,19 @@ side_in word = if nat_lt word (2 ^ 30)
 abbrev pub sides_in : List ℕ → List Side
 sides_in words = map side_in words
 
--- it fits
+-- the side can be encoded in four bytes
 abbrev pub IsSmall : Side → Type 0
 IsSmall (To next entry) = next < 2 ^ 22
 IsSmall (End end) = end < 2 ^ 30
 IsSmall Bare = Unit {0}
 
--- an end port fits
+-- an end port, if the side leads to one, can be encoded
 abbrev pub IsSmallEnd : Side → Type 0
 IsSmallEnd (To next entry) = Unit {0}
 IsSmallEnd (End end) = end < 2 ^ 16
 IsSmallEnd Bare = Unit {0}
 
--- the side of a port is this one now, and all else is as before
+-- the port at `spot` leads to `side` in `new`, and all else is as in `old`
 pub record IsSideSet (old new : FabricOf) (spot : Spot) (side : Side) : Type 0 where
   pub count : length new.sides ≡ length old.sides
   pub there : side_of new spot.switch spot.port ≡ side
@@ -39,7 +39,7 @@ pub record IsSideSet (old new : FabricOf) (spot : Spot) (side : Side) : Type 0 w
       (switch port : ℕ) → IsOther spot switch port → side_of new switch port ≡ side_of old switch port
   pub rest : new ≡ record old { sides = new.sides }
 
--- these switches and end ports, and the fabric of nodes and parts
+-- the nodes with these switches and end ports, and the fabric with these nodes and parts
 abbrev pub nodes_in : List (ℕ × Switch) → List (ℕ × LidRange) → NodesOf
 nodes_in switches ends = record { switches = switches; ends = ends }
 

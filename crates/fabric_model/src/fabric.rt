@@ -1,4 +1,4 @@
-//! The fabric: nodes by rising GUID, and links.
+//! The fabric: nodes in ascending order of GUID, and links.
 
 ghost use Rattle.std.specs.Prelude.{◌≡◌, ◌≢◌, ◌<◌, ◌≤◌, ◌-◌, ◌*◌, ◌^◌, ◌↔◌, ℕ, length, slice_get};
 ghost use Rattle.std.specs.Prelude.{slice_index_or, replicate, All, None, IfErr, IfOk, IfSome, IsTrue};
@@ -20,7 +20,7 @@ use indexmap::IndexMap;
 use std::alloc::Global;
 use std::marker::Model;
 
-/// Switches, end ports and links. The nodes stand by rising GUID, and their places name them.
+/// Switches, end ports and links. Nodes are kept in ascending order of GUID, and named by their index.
 #[derive(Drop)]
 pub struct Fabric {
     switches: IndexMap<u64, Switch>,
@@ -292,7 +292,10 @@ fn bare_parts(
 }
 
 impl Fabric {
-    /// A fabric of these nodes, by rising GUID, that is not cabled.
+    /// Creates a fabric of `nodes`, in ascending order of GUID, in which nothing is cabled.
+    ///
+    /// # Errors
+    /// `OutOfMemory`.
     pub fn of(alloc: Global, nodes: Nodes) -> Result<Fabric, OutOfMemory>
         ensures { IfOk result (λ fabric. IsBareOf nodes fabric) }
     {
@@ -317,7 +320,7 @@ impl Fabric {
         })
     }
 
-    /// The place of the switch with a GUID, if there is one.
+    /// Returns the index of the switch with `guid`, if there is one.
     pub fn switch_with(&self, guid: u64) -> Option<u32>
         ensures place { result ≡ switch_with self.now guid }
         ensures within { IfSome result (λ place. place < switch_count self.now) }
@@ -326,7 +329,7 @@ impl Fabric {
         Some(place as u32)
     }
 
-    /// The place of the end port with a GUID, of an adapter or router, if there is one.
+    /// Returns the index of the end port, of an adapter or router, with `guid`, if there is one.
     pub fn end_with(&self, guid: u64) -> Option<u32>
         ensures place { result ≡ end_with self.now guid }
         ensures within { IfSome result (λ place. place < length self.now.cables) }
@@ -367,7 +370,13 @@ impl Fabric {
         self.put_side(other, Side::To(one.switch, one.port));
     }
 
-    /// Links two ports of switches. A link that stands counts once. If it is refused nothing is changed.
+    /// Links ports `one` and `other` of switches. A link that exists already counts once.
+    ///
+    /// The caller must name switches of this fabric.
+    ///
+    /// # Errors
+    /// `NoPort` if a switch does not have the port; `Differs` if either port is cabled otherwise. The fabric is then
+    /// unchanged.
     pub fn link(&mut self, one: Spot, other: Spot) -> Result<(), LinkFault>
         requires one { one.switch < switch_count self.old }
         requires other { other.switch < switch_count self.old }
@@ -403,8 +412,14 @@ impl Fabric {
         self.cables[end as usize] = Some(spot);
     }
 
-    /// Cables an end port of an adapter or router to a port of a switch. A cable that stands counts once.
-    /// If it is refused nothing is changed.
+    /// Cables `end`, an end port of an adapter or router, to port `spot` of a switch. A cable that exists already
+    /// counts once.
+    ///
+    /// The caller must name an end port and a switch of this fabric.
+    ///
+    /// # Errors
+    /// `NoPort` if the switch does not have the port; `Differs` if the end port or the port is cabled otherwise. The
+    /// fabric is then unchanged.
     pub fn cable(&mut self, end: u32, spot: Spot) -> Result<(), LinkFault>
         requires end { end < length self.old.cables }
         requires switch { spot.switch < switch_count self.old }
@@ -428,7 +443,7 @@ impl Fabric {
         Ok(())
     }
 
-    /// How many switches there are.
+    /// Returns the number of switches, at most 16,384.
     pub fn switches(&self) -> usize
         ensures count { result ≡ switch_count self.now }
         ensures most { result ≤ 2 ^ 14 }
@@ -437,7 +452,7 @@ impl Fabric {
         self.switches.len()
     }
 
-    /// How many end ports adapters and routers have.
+    /// Returns the number of end ports of adapters and routers.
     pub fn ends(&self) -> usize
         ensures count { result ≡ length self.now.cables }
         ensures few { result < 2 ^ 16 }
@@ -445,7 +460,7 @@ impl Fabric {
         self.cables.len()
     }
 
-    /// How many ports a switch has.
+    /// Returns the number of ports of `switch`. The caller must name a switch of this fabric.
     pub fn ports(&self, switch: usize) -> u8
         requires { switch < switch_count self.now }
         ensures { result ≡ ports_of self.now switch }
@@ -476,7 +491,7 @@ impl Fabric {
         }
     }
 
-    /// The GUID of an end port; 0 for a place at which there is none.
+    /// Returns the GUID of `port`, or 0 if there is no such end port.
     pub fn guid(&self, port: EndPort) -> u64
         ensures { result ≡ guid_of self.now port }
     {
@@ -486,7 +501,7 @@ impl Fabric {
         }
     }
 
-    /// How many ports the switch with most has.
+    /// Returns the number of ports of the switch with most ports, at most 254.
     pub fn most(&self) -> usize
         ensures most { result ≡ self.now.most }
         ensures low { result < 255 }
@@ -496,7 +511,7 @@ impl Fabric {
         self.most
     }
 
-    /// Where a port of a switch leads.
+    /// Returns where `port` of `switch` leads. The caller must name a switch of this fabric.
     pub fn side(&self, switch: usize, port: u8) -> Side
         requires { switch < switch_count self.now }
         ensures side { result ≡ side_of self.now switch port }
@@ -509,7 +524,8 @@ impl Fabric {
         self.side_at(switch * self.most + (port - 1))
     }
 
-    /// The same by the place among all ports, switch by switch.
+    /// As `side`, for the port at index `place` among all ports, switch by switch. The caller must keep `place` below
+    /// the number of switches times `most`.
     pub fn side_at(&self, place: usize) -> Side
         requires { place < switch_count self.now * self.now.most }
         ensures side { result ≡ slice_index_or self.now.sides place Side.Bare }
@@ -527,14 +543,14 @@ impl Fabric {
         unpack(self.sides[place])
     }
 
-    /// The end port that owns a LID.
+    /// Returns the end port that owns `lid`, if any.
     pub fn owner(&self, lid: usize) -> Option<EndPort>
         ensures { result ≡ owner_of self.now lid }
     {
         self.owners.get(lid).copied().flatten()
     }
 
-    /// One more than the greatest LID that has an owner.
+    /// Returns one more than the highest LID that has an owner, or 0 if none has.
     pub fn lids(&self) -> usize
         ensures count { result ≡ length self.now.owners }
         ensures most { result ≤ 0xC000 }
@@ -542,7 +558,7 @@ impl Fabric {
         self.owners.len()
     }
 
-    /// Where an end port of an adapter or router is cabled.
+    /// Returns the port to which `end`, an end port of an adapter or router, is cabled.
     pub fn cable_of(&self, end: usize) -> Option<Spot>
         ensures cable { result ≡ cable_of self.now end }
         ensures within { IfSome result (λ spot. spot.switch < switch_count self.now) }

@@ -1,10 +1,13 @@
-//! The fabric that a topology tells of: switches, end ports, links, and who owns which LID.
+//! fabric, model: switches, end ports, links, and which end port owns which LID.
 //!
-//! It stands on `an_base`, on `common_lines` for the stop of a line, and on `indexmap`. Its contract: `nodes`
-//! takes the switches and end ports one by one, and refuses each that differs from what was told or whose
-//! LIDs another owns; `fabric` puts them in the order of their GUIDs, takes the links one by one, and
-//! answers, in one step each, what stands where: `FabricOf` (`specs/Fabric`) is what all that is judged of a
-//! fabric speaks of.
+//! A topology file describes one such fabric. `nodes` takes its switches and end ports one by one, and `fabric` puts
+//! them in ascending order of GUID and takes the links one by one. `traffic` names the sets of routes that can be
+//! judged.
+//!
+//! The crate depends on `common_lines` for the stop of a line, and on `indexmap`. Its contract: a node that differs
+//! from what was given before, or whose LIDs another node owns, is rejected; a link or cable that contradicts an
+//! earlier one is rejected; and each question about the fabric is answered as `FabricOf` (`specs/Fabric`) defines it.
+//! All crates that judge a fabric speak of `FabricOf`.
 #![tactic(auto)]
 
 pub mod fabric;

@@ -1,27 +1,27 @@
-//! What stands in a fabric.
+//! The parts of a fabric.
 
-/// The LIDs of an end port, one after the other.
+/// The LIDs of an end port, which are consecutive.
 #[derive(Clone, Copy, PartialEq, Eq)]
 pub struct LidRange {
-    /// The first one, the base; 0 if there are none.
+    /// The base LID; 0 if there are no LIDs.
     pub base: u16,
-    /// The LMC: there are 2 to this number of them.
+    /// The LMC: there are 2 to the power `lmc` LIDs.
     pub lmc: u8,
 }
 
 /// A switch.
 #[derive(Clone, Copy, PartialEq, Eq)]
 pub struct Switch {
-    /// How many ports it has beside port 0: 1 to this number.
+    /// The number of ports next to port 0: they are 1 to this number.
     pub ports: u8,
     /// The LIDs of its port 0.
     pub lids: LidRange,
 }
 
-/// An end port, by its place among those of its kind, from 0.
+/// An end port, by its index among those of its kind, from 0.
 #[derive(Clone, Copy)]
 pub enum EndPort {
-    /// That of an adapter or router.
+    /// The end port of an adapter or router.
     Host(u32),
     /// Port 0 of a switch.
     Switch(u32),
@@ -30,7 +30,7 @@ pub enum EndPort {
 /// A port of a switch.
 #[derive(Clone, Copy)]
 pub struct Spot {
-    /// The place of the switch.
+    /// The index of the switch.
     pub switch: u32,
     /// The port.
     pub port: u8,
@@ -41,32 +41,32 @@ pub struct Spot {
 pub enum Side {
     /// Nowhere.
     Bare,
-    /// To the switch of this place, and this port of it.
+    /// To the switch at this index, and this port of it.
     To(u32, u8),
-    /// To the end port of an adapter or router of this place.
+    /// To the end port, of an adapter or router, at this index.
     End(u32),
 }
 
-/// Why a switch or an end port is refused.
+/// Why a switch or an end port is rejected.
 #[derive(Clone, Copy)]
 pub enum NodeFault {
-    /// Its GUID was told before, and not with the same kind, ports and LIDs.
+    /// Its GUID was given before, with another kind, ports or LIDs.
     Differs,
-    /// A LID of it is above 0xBFFF, or its LMC is above 7.
+    /// One of its LIDs is above 0xBFFF, or its LMC is above 7.
     LidsTooHigh,
-    /// A LID of it has another owner.
+    /// One of its LIDs has another owner.
     LidTaken,
     /// It would have more than 254 ports.
     TooManyPorts,
-    /// There are 16,384 switches, or 65,535 end ports of adapters and routers, without it.
+    /// There are already 16,384 switches, or 65,535 end ports of adapters and routers.
     TooMany,
 }
 
-/// Why a link is refused.
+/// Why a link is rejected.
 #[derive(Clone, Copy)]
 pub enum LinkFault {
-    /// A port of it is 0 or above those that its switch has.
+    /// One of its ports is 0 or above the number of ports of its switch.
     NoPort,
-    /// A port of it was told to be cabled otherwise.
+    /// One of its ports is cabled otherwise.
     Differs,
 }

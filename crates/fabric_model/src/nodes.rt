@@ -1,4 +1,4 @@
-//! The switches and end ports of a topology, told one by one in any order.
+//! The switches and end ports of a topology, added one by one in any order.
 
 ghost use Rattle.std.specs.Prelude.{◌≡◌, ◌<◌, ◌≤◌, ◌+◌, ◌-◌, ◌^◌, ◌++◌, [], ◌∷◌, ◌↔◌, length, replicate, ℕ};
 ghost use Rattle.std.specs.Prelude.{slice_index_or, None, true, false, IfNone, IfOk, IfSome, IsTrue, OnErr};
@@ -13,13 +13,13 @@ use indexmap::IndexMap;
 use std::alloc::Global;
 use std::marker::Model;
 
-/// One more than the greatest LID that an end port may own.
+/// One more than the highest LID that an end port can own.
 pub const LIDS: usize = 0xC000;
 
-/// The most switches.
+/// The highest number of switches.
 pub const MOST_SWITCHES: usize = 1 << 14;
 
-/// The most end ports of adapters and routers.
+/// The highest number of end ports of adapters and routers.
 pub const MOST_ENDS: usize = (1 << 16) - 1;
 
 /// Switches and end ports by their GUIDs, and which LIDs have an owner.
@@ -121,7 +121,10 @@ fn lids_fault(owned: &[bool], lids: LidRange) -> Option<NodeFault>
 }
 
 impl Nodes {
-    /// No nodes.
+    /// Creates an empty set of nodes.
+    ///
+    /// # Errors
+    /// `OutOfMemory`.
     pub fn new(alloc: Global) -> Result<Nodes, OutOfMemory>
         ensures { IfOk result (λ n. n ≡ record { switches = []; ends = [] }) }
     {
@@ -133,7 +136,10 @@ impl Nodes {
         })
     }
 
-    /// Adds a switch. One that was told alike counts once. If it is refused nothing is added.
+    /// Adds `switch` with `guid`. A switch that was added already, with the same ports and LIDs, counts once.
+    ///
+    /// # Errors
+    /// The first `NodeFault` that holds, or out of memory. The nodes are then unchanged.
     pub fn add_switch(&mut self, guid: u64, switch: Switch) -> Result<(), Stop<NodeFault>>
         ensures added { IsStep result (AddsSwitch self.old self.new guid switch)
             (IsRefusedSwitch self.old guid switch) }
@@ -176,8 +182,11 @@ impl Nodes {
         Ok(())
     }
 
-    /// Adds an end port of an adapter or router. One that was told alike counts once. If it is refused
-    /// nothing is added.
+    /// Adds the end port, of an adapter or router, with `guid` and `lids`. An end port that was added already, with the
+    /// same LIDs, counts once.
+    ///
+    /// # Errors
+    /// The first `NodeFault` that holds, or out of memory. The nodes are then unchanged.
     pub fn add_end(&mut self, guid: u64, lids: LidRange) -> Result<(), Stop<NodeFault>>
         ensures added { IsStep result (AddsEnd self.old self.new guid lids)
             (IsRefusedEnd self.old guid lids) }

@@ -5,12 +5,12 @@ ghost use Rattle.fabric_model.specs.Sides.{side_in, IsSmall};
 
 use crate::node::Side;
 
-/// A bare port.
+/// The encoding of a bare port.
 pub const BARE: u32 = 0xFFFF_FFFF;
 
 const END: u32 = 1 << 30;
 
-/// The side in four bytes.
+/// Encodes `side` in four bytes. The caller must pass a `side` whose indices fit (`IsSmall`).
 pub fn pack(side: Side) -> u32
     requires { IsSmall side }
     ensures { side_in result ≡ side }
@@ -22,7 +22,7 @@ pub fn pack(side: Side) -> u32
     }
 }
 
-/// The side that four bytes say.
+/// Decodes the side in `word`.
 pub fn unpack(word: u32) -> Side
     ensures { result ≡ side_in word }
 {

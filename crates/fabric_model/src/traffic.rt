@@ -1,17 +1,17 @@
-//! Which routes are judged.
+//! The set of routes to judge.
 
-/// Who sends to whom. An end port of an adapter or router sends, and is sent to, only if it is cabled to a
-/// switch. None sends to itself. Each traffic has all routes of the one before it.
+/// Who sends to whom. An end port of an adapter or router sends and receives only if it is cabled to a switch. No end
+/// port sends to itself. Each variant contains all routes of the variant before it.
 #[derive(Clone, Copy)]
 pub enum Traffic {
     /// The end ports of adapters and routers send to one another.
     Hosts,
-    /// They send to switches too.
+    /// They also send to switches.
     Lids,
-    /// Switches send too, but not to one another.
+    /// Switches also send, but not to one another.
     Managed,
-    /// All send to all others.
+    /// All end ports and switches send to all others.
     All,
-    /// All send, besides, to each LID that nobody owns and for which some switch has a port.
+    /// They also send to each LID that nobody owns and for which at least one switch has a port.
     Rows,
 }

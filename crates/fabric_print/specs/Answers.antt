@@ -29,7 +29,7 @@ read_row read =
     ∷ codes "links" ∷ decimal read.links ∷ codes "rows" ∷ decimal read.rows
     ∷ codes "unowned" ∷ decimal read.unowned ∷ []
 
--- which routes were judged
+-- the routes that were judged
 abbrev pub judged_row : List ℕ → Row
 judged_row traffic =
     codes "judged" ∷ codes "traffic" ∷ traffic ∷ codes "lanes" ∷ codes "one" ∷ []
@@ -48,7 +48,7 @@ abbrev pub channels_row : (channels dependencies : ℕ) → Row
 channels_row channels dependencies =
     codes "channels" ∷ decimal channels ∷ codes "dependencies" ∷ decimal dependencies ∷ []
 
--- a channel of the cycle, with the route that takes it and the next one
+-- a channel of the cycle, with the route that takes it and then, directly, the next one
 abbrev pub channel_row : LoopStep → Row
 channel_row step =
     codes "channel" ∷ guid_word step.guid ∷ decimal step.port ∷ codes "lid" ∷ decimal step.lid
@@ -90,11 +90,11 @@ abbrev pub unset_rows : ℕ → List Row
 unset_rows unset =
     if unset == 0 then [] else (codes "note" ∷ codes "unset" ∷ decimal unset ∷ []) ∷ []
 
--- a name stands last on its line, since it may have spaces
+-- a name is last on its line, because it can contain spaces
 abbrev pub name_row : Name → Row
 name_row name = codes "name" ∷ guid_word name.guid ∷ name.text ∷ []
 
--- all of it
+-- all rows of an answer
 unfoldable pub answer_rows : Answer → List Row
 answer_rows answer =
     (codes "fabric" ∷ codes "1" ∷ []) ∷ read_row answer.read ∷ judged_row answer.traffic.now

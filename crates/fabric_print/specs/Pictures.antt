@@ -9,8 +9,8 @@ use Rattle.fabric_print.specs.declared.picture.Arrow.{Arrow}
 use Rattle.fabric_print.specs.declared.picture.Picture.{Picture}
 use Rattle.fabric_print.specs.Answers.{Row, guid_word}
 
--- A byte of a name in a label: a quote (34) or a backslash (92) with a backslash before it, an ampersand (38) by its
--- word, a control byte as a question mark.
+-- `escape`: a byte of a name in a label: a quote (34) or a backslash (92) after a backslash, an ampersand
+-- (38) as `&amp;`, a control byte as a question mark
 abbrev pub escape : ℕ → List ℕ
 escape byte = if (byte == 34) || (byte == 92)
     then 92 ∷ byte ∷ []
@@ -21,20 +21,20 @@ escape byte = if (byte == 34) || (byte == 92)
 abbrev pub escaped : List ℕ → List ℕ
 escaped name = flat_map escape name
 
--- how many channels a loop has, or that there is none, at the end of a text in quotes
+-- the number of channels of a loop, or that there is no loop, at the end of a text in quotes
 abbrev pub loop_word : ℕ → List ℕ
 loop_word many = if many == 0
     then codes "has no credit loop\""
     else codes "has a credit loop of " ++ (decimal many ++ codes " channels\"")
 
--- a GUID at the end of a text in quotes, and a switch by its GUID
+-- `closed_word`: a GUID at the end of a text in quotes; `switch_word`: a switch by its GUID
 abbrev pub closed_word : ℕ → List ℕ
 closed_word guid = guid_word guid ++ codes "\""
 
 abbrev pub switch_word : ℕ → List ℕ
 switch_word guid = codes "\"" ++ closed_word guid
 
--- a name, and under it the GUID of the switch, for which `\N` stands
+-- a name, and under it the GUID of the switch, which `\N` represents
 abbrev pub label_word : List ℕ → List ℕ
 label_word name = codes "\"" ++ (escaped name ++ codes "\\n\\N\"")
 
@@ -42,8 +42,8 @@ label_word name = codes "\"" ++ (escaped name ++ codes "\\n\\N\"")
 abbrev pub switch_row : Name → Row
 switch_row name = switch_word name.guid ∷ codes "[ label =" ∷ label_word name.text ∷ codes "]" ∷ []
 
--- A channel: from its switch out of a port, to another one into a port, with the route that makes it depend on the next.
--- Its label begins with a word.
+-- A channel: from its switch out of a port, to another one into a port, with the route that makes it depend
+-- on the next. Its label begins with `label`.
 abbrev pub arrow_row_by : List ℕ → Arrow → Row
 arrow_row_by label arrow =
     switch_word arrow.step.guid ∷ codes "->" ∷ switch_word arrow.to
@@ -54,7 +54,7 @@ arrow_row_by label arrow =
 abbrev pub arrow_row : Arrow → Row
 arrow_row arrow = arrow_row_by (codes "label = \"lid") arrow
 
--- how the label begins on a lane: the lane and the service level of the route have a line of their own
+-- the start of the label on a lane: the lane and the service level of the route have a line of their own
 abbrev pub lane_label : (lane level : ℕ) → List ℕ
 lane_label lane level =
     codes "label = \"lane " ++ (decimal lane ++ (codes " level " ++ (decimal level ++ codes "\\nlid")))
@@ -66,7 +66,8 @@ style_rows = (codes "node [ shape = box ]" ∷ []) ∷ (codes "edge [ labeldista
 abbrev pub end_rows : List Row
 end_rows = (codes "}" ∷ []) ∷ []
 
--- all of it: what was judged and what loop there is, the switches that have names, and the channels
+-- all rows of a picture: what was judged and what loop there is, the switches that have names, and the
+-- channels
 unfoldable pub picture_rows_by : {Channel : Type 0} → (Channel → Row) → Row → List Name → List Channel → List Row
 picture_rows_by row_of title names channels =
     (codes "digraph cycle {" ∷ []) ∷ (codes "label = \"traffic" ∷ title)

@@ -14,14 +14,14 @@ rank_row of = codes "rank" ∷ guid_word of.guid ∷ decimal of.port ∷ decimal
 abbrev pub ranks_text : List Rank → List ℕ
 ranks_text ranks = lines_text ((codes "ranks" ∷ codes "1" ∷ []) ∷ map rank_row ranks)
 
--- the ranks fall along each dependency; or the first along which they do not: the channel that depends, with a route
--- that makes the dependency, its rank, and that of the channel on which it depends
+-- the ranks fall along every dependency; or the first dependency along which they do not: the channel that
+-- depends, with a route that makes the dependency, its rank, and the rank of the channel on which it depends
 abbrev pub risen_rows : Option Risen → List Row
 risen_rows None = (codes "ranks" ∷ codes "fall" ∷ []) ∷ []
 risen_rows (Some rise) =
     (codes "ranks" ∷ codes "rise" ∷ []) ∷ channel_row rise.step ∷ rank_row rise.own ∷ rank_row rise.next ∷ []
 
--- all of the answer: which routes were judged, and whether the ranks fall
+-- all rows of the answer: which routes were judged, and whether the ranks fall
 unfoldable pub verified_rows : (traffic : List ℕ) → Option Risen → List Row
 verified_rows traffic rise = (codes "fabric" ∷ codes "1" ∷ []) ∷ judged_row traffic ∷ risen_rows rise
 

@@ -1,4 +1,4 @@
--- The words of a row, as they are printed.
+-- The words of a row, as the program prints them.
 
 use Rattle.std.specs.Prelude.{ℕ, List}
 use Rattle.std.specs.Fmt.{decimal}
@@ -7,7 +7,7 @@ use Rattle.fabric_print.specs.declared.row.RowWord.TheVariants.{Text, Number, Gu
 use Rattle.fabric_print.specs.Answers.{guid_word}
 use Rattle.fabric_print.specs.Pictures.{closed_word, label_word, lane_label, loop_word, switch_word}
 
--- what stands for a word
+-- the bytes of a word
 abbrev pub word_text : RowWord → List ℕ
 word_text (Text bytes) = bytes.now
 word_text (Number number) = decimal number

@@ -1,4 +1,4 @@
-//! What the program answers.
+//! The answers of the program.
 
 use common_values::text::Word;
 
@@ -13,25 +13,25 @@ pub struct Read {
     pub links: u64,
     /// Rows of tables that name a port.
     pub rows: u64,
-    /// Those of these rows that are for LIDs without an owner.
+    /// The rows for LIDs without an owner.
     pub unowned: u64,
 }
 
 /// The routes of a traffic.
 #[derive(Clone, Copy)]
 pub struct Routes {
-    /// All.
+    /// All of them.
     pub routes: u64,
-    /// Those that arrive.
+    /// The routes that arrive.
     pub arrived: u64,
-    /// The most switches on one that arrives.
+    /// The highest number of switches on a route that arrives.
     pub hops: u64,
-    /// Those of the routes that arrive that go to LIDs that nobody owns; None for a traffic without such routes.
+    /// The routes that arrive at LIDs that nobody owns; `None` for a traffic without such routes.
     pub unowned: Option<u64>,
 }
 
-/// A dependency of a cycle, by a route that makes it: the route takes the channel, and then the next one of
-/// the cycle.
+/// A dependency of a cycle, with a route that makes it: the route takes the channel, and then, directly, the next
+/// channel of the cycle.
 #[derive(Clone, Copy)]
 pub struct LoopStep {
     /// The GUID of the switch of the channel.
@@ -40,7 +40,7 @@ pub struct LoopStep {
     pub port: u8,
     /// The LID to which the route leads.
     pub lid: u16,
-    /// The GUID of the end port from which it comes.
+    /// The GUID of the end port from which the route comes.
     pub source: u64,
 }
 
@@ -53,27 +53,27 @@ pub enum WhyLost {
     Dead,
     /// The port leads to an end port that does not own the LID.
     Wrong,
-    /// The route goes on for ever.
+    /// The route goes on for ever, because it revisits a switch.
     Loop,
 }
 
-/// The least of the routes that are lost by a cause.
+/// The least of the routes that are lost for one reason.
 #[derive(Clone, Copy)]
 pub struct Lost {
-    /// Why it is lost.
+    /// The reason.
     pub cause: WhyLost,
-    /// The LID to which it was to lead.
+    /// The LID that it does not reach.
     pub lid: u16,
     /// The GUID of the end port from which it comes.
     pub source: u64,
-    /// The GUID of the switch at which it is lost.
+    /// The GUID of the switch where it is lost.
     pub at: u64,
 }
 
 /// How many routes are lost.
 #[derive(Clone, Copy)]
 pub struct LostCounts {
-    /// By whatever cause.
+    /// For whatever reason.
     pub all: u64,
     /// At a switch that has no port for the LID.
     pub missing: u64,
@@ -81,16 +81,16 @@ pub struct LostCounts {
     pub dead: u64,
     /// At an end port that does not own the LID.
     pub wrong: u64,
-    /// In a loop.
+    /// On a loop.
     pub looping: u64,
 }
 
-/// What a topology calls a node.
+/// The name that a topology gives to a node.
 #[derive(Drop)]
 pub struct Name {
     /// The GUID of the node.
     pub guid: u64,
-    /// Its description, as it stands.
+    /// Its description, unchanged.
     pub text: Word,
 }
 
@@ -99,22 +99,22 @@ pub struct Name {
 pub struct Answer {
     /// What was read.
     pub read: Read,
-    /// The word of the traffic that was judged.
+    /// The word for the traffic that was judged.
     pub traffic: &'static str,
     /// Its routes.
     pub routes: Routes,
-    /// How many channels the fabric has.
+    /// The number of channels of the fabric.
     pub channels: u64,
-    /// How many dependencies the routes make.
+    /// The number of dependencies that the routes make.
     pub dependencies: u64,
-    /// The channels of the least cycle, or none if no cycle exists.
+    /// The channels of the least cycle, or none if there is no cycle.
     pub cycle: Vec<LoopStep>,
-    /// How many routes are lost.
+    /// The numbers of lost routes.
     pub losses: LostCounts,
-    /// The least lost route of each cause that occurs.
+    /// The least lost route for each reason that occurs.
     pub lost: Vec<Lost>,
-    /// How many ports have a base LID that says that nobody has set it.
+    /// The number of ports whose base LID says that nobody has set it.
     pub unset: u64,
-    /// The names of the nodes above.
+    /// The names of the nodes in the fields above.
     pub names: Vec<Name>,
 }

@@ -6,7 +6,10 @@ ghost use Rattle.fabric_print.specs.Pictures.{escape, escaped, label_word, lane_
 use common_values::text::push_decimal;
 use std::alloc::{AllocError, Global};
 
-/// Appends the label of a switch with a name.
+/// Appends the label of a switch with this name.
+///
+/// # Errors
+/// `AllocError` if the allocation fails.
 pub(crate) fn push_label(text: &mut Vec<u8>, name: &[u8]) -> Result<(), AllocError>
     ensures { OnOk result (text.new.items ≡ text.old.items ++ label_word name.now) }
 {
@@ -47,7 +50,10 @@ fn escape(byte: u8) -> Option<&'static [u8]>
     }
 }
 
-/// Appends how many channels a loop has, at the end of a text in quotes; or that there is no loop.
+/// Appends how many channels a loop has, or that there is no loop, at the end of a text in quotes.
+///
+/// # Errors
+/// `AllocError` if the allocation fails.
 pub(crate) fn push_loop(alloc: Global, text: &mut Vec<u8>, many: usize) -> Result<(), AllocError>
     ensures { OnOk result (text.new.items ≡ text.old.items ++ loop_word many) }
 {
@@ -60,7 +66,10 @@ pub(crate) fn push_loop(alloc: Global, text: &mut Vec<u8>, many: usize) -> Resul
     Ok(())
 }
 
-/// Appends how the label of a channel on a lane begins, for a route with a service level.
+/// Appends the start of the label of a channel on a lane, for a route with a service level.
+///
+/// # Errors
+/// `AllocError` if the allocation fails.
 pub(crate) fn push_on_lane(
     alloc: Global,
     text: &mut Vec<u8>,

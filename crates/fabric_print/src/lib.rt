@@ -1,8 +1,9 @@
-//! The answers of `fabric` as texts.
+//! fabric, printers: the answers of `fabric` as text.
 //!
-//! It stands on `an_base` and `common_lines`. Its one contract: `printer::print` gives the lines of an
-//! answer, which `specs/Answers` defines: rows of words, each number decimal and each GUID `0x` with sixteen
-//! digits, so that other programs can read all of it. `ranks` does the same for ranks and for whether they fall.
+//! The crate depends on `common_lines`. Its one contract: `printer::print` returns the lines of an answer, which
+//! `specs/Answers` defines: rows of words, with each number in decimal and each GUID as `0x` and sixteen digits, so
+//! that other programs can read all of it. `ranks` does so for ranks and for whether they fall, and `picture` for the
+//! picture of a credit loop.
 #![tactic(auto)]
 
 pub mod answer;

@@ -16,16 +16,16 @@ use std::alloc::Global;
 pub struct Arrow {
     /// Its switch and port, with the route that takes it and the next one.
     pub step: LoopStep,
-    /// The GUID of the switch to which it leads ..
+    /// The GUID of the switch to which it leads.
     pub to: u64,
-    /// .. and the port of that switch.
+    /// The port of that switch.
     pub entry: u8,
 }
 
 /// A picture of a credit loop, or of none.
 #[derive(Drop)]
 pub struct Picture {
-    /// The word of the traffic that was judged.
+    /// The word for the traffic that was judged.
     pub traffic: &'static str,
     /// The names of the switches.
     pub names: Vec<Name>,
@@ -33,7 +33,10 @@ pub struct Picture {
     pub arrows: Vec<Arrow>,
 }
 
-/// The text of a picture.
+/// Returns the text of `picture`.
+///
+/// # Errors
+/// `OutOfMemory`.
 pub fn print_picture(alloc: Global, picture: &Picture) -> Result<Vec<u8>, OutOfMemory>
     ensures { IfOk result (λ text. text.items ≡ picture_text picture.now) }
 {
@@ -45,7 +48,10 @@ pub fn print_picture(alloc: Global, picture: &Picture) -> Result<Vec<u8>, OutOfM
     )
 }
 
-/// The text of a picture with a title, the names of switches, and an arrow for each channel.
+/// Returns the text of a picture with a title, the names of switches, and an arrow for each channel.
+///
+/// # Errors
+/// `OutOfMemory`.
 pub fn print_picture_by<T: HasRow>(
     alloc: Global,
     title: &[RowWord],
@@ -119,7 +125,10 @@ impl HasRow for Arrow {
     }
 }
 
-/// Appends the row of an arrow whose label begins with a word.
+/// Appends the row of `arrow`, whose label begins with `label`.
+///
+/// # Errors
+/// `OutOfMemory`.
 pub fn push_arrow(
     alloc: Global,
     text: &mut Vec<u8>,

@@ -11,7 +11,10 @@ use crate::row::{HasRow, RowWord, push_row, push_rows};
 use common_values::memory::OutOfMemory;
 use std::alloc::Global;
 
-/// The text of an answer.
+/// Returns the text of `answer`.
+///
+/// # Errors
+/// `OutOfMemory`.
 pub fn print(alloc: Global, answer: &Answer) -> Result<Vec<u8>, OutOfMemory>
     ensures { IfOk result (λ text. text.items ≡ answer_text answer.now) }
 {
@@ -37,6 +40,9 @@ fn push_answer(alloc: Global, text: &mut Vec<u8>, answer: &Answer) -> Result<(),
 }
 
 /// Appends the row of what was read.
+///
+/// # Errors
+/// `OutOfMemory`.
 pub fn push_read(alloc: Global, text: &mut Vec<u8>, read: Read) -> Result<(), OutOfMemory>
     ensures { OnOk result (text.new.items ≡ text.old.items ++ line_text (read_row read)) }
 {
@@ -81,6 +87,9 @@ pub(crate) fn push_judged(
 }
 
 /// Appends the row of the routes.
+///
+/// # Errors
+/// `OutOfMemory`.
 pub fn push_routes(alloc: Global, text: &mut Vec<u8>, of: Routes) -> Result<(), OutOfMemory>
     ensures { OnOk result (text.new.items ≡ text.old.items ++ line_text (routes_row of)) }
 {
@@ -111,7 +120,10 @@ pub fn push_routes(alloc: Global, text: &mut Vec<u8>, of: Routes) -> Result<(), 
     }
 }
 
-/// Appends the row of how many channels and dependencies there are.
+/// Appends the row of the numbers of channels and dependencies.
+///
+/// # Errors
+/// `OutOfMemory`.
 pub fn push_channels(
     alloc: Global,
     text: &mut Vec<u8>,
@@ -133,7 +145,10 @@ pub fn push_channels(
     )
 }
 
-/// Appends the rows of a cycle, by its channels: without channels there is none.
+/// Appends the rows of a cycle with these channels; without channels there is none.
+///
+/// # Errors
+/// `OutOfMemory`.
 pub fn push_cycle<T: HasRow>(
     alloc: Global,
     text: &mut Vec<u8>,
@@ -248,6 +263,9 @@ fn cause_word(cause: WhyLost) -> &'static str
 }
 
 /// Appends the row of the ports whose base LID nobody has set, if there are any.
+///
+/// # Errors
+/// `OutOfMemory`.
 pub fn push_unset(alloc: Global, text: &mut Vec<u8>, unset: u64) -> Result<(), OutOfMemory>
     ensures { OnOk result (text.new.items ≡ text.old.items ++ lines_text (unset_rows unset)) }
 {

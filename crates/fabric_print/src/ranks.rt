@@ -1,4 +1,4 @@
-//! Ranks as a text, and the answer to whether they fall.
+//! Ranks as text, and the answer to whether they fall.
 
 ghost use Rattle.std.specs.Prelude.{◌≡◌, ◌++◌, IfOk, OnOk};
 ghost use Rattle.common_lines.specs.Lines.{lines_text};
@@ -27,22 +27,25 @@ pub struct Rank {
 pub struct Risen {
     /// The channel that depends, with the route that makes the dependency.
     pub step: LoopStep,
-    /// Its rank ..
+    /// The rank of this channel.
     pub own: Rank,
-    /// .. and that of the channel on which it depends.
+    /// The rank of the channel on which it depends.
     pub next: Rank,
 }
 
 /// The answer for ranks, a topology and tables.
 #[derive(Clone, Copy)]
 pub struct Verified {
-    /// The word of the traffic that was judged.
+    /// The word for the traffic that was judged.
     pub traffic: &'static str,
-    /// The first dependency along which the ranks do not fall, or None if they fall along each.
+    /// The first dependency along which the ranks do not fall, or `None` if they fall along every dependency.
     pub rise: Option<Risen>,
 }
 
-/// The text of ranks.
+/// Returns the text of `ranks`.
+///
+/// # Errors
+/// `OutOfMemory`.
 pub fn print_ranks(alloc: Global, ranks: &[Rank]) -> Result<Vec<u8>, OutOfMemory>
     ensures { IfOk result (λ text. text.items ≡ ranks_text ranks.now) }
 {
@@ -79,7 +82,10 @@ impl HasRow for Rank {
     }
 }
 
-/// The text of the answer for ranks.
+/// Returns the text of `answer`.
+///
+/// # Errors
+/// `OutOfMemory`.
 pub fn print_verified(alloc: Global, answer: &Verified) -> Result<Vec<u8>, OutOfMemory>
     ensures { IfOk result (λ text. text.items ≡ verified_text answer.now.traffic.now answer.now.rise) }
 {

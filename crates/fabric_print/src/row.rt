@@ -1,4 +1,4 @@
-//! Rows of words, as they are printed.
+//! Rows of words, as the program prints them.
 
 ghost use Rattle.std.specs.Prelude.{◌≡◌, ◌++◌, ◌∷◌, List, ℕ, map, OnOk};
 ghost use Rattle.common_lines.specs.Lines.{line_text, lines_text};
@@ -25,11 +25,11 @@ pub enum RowWord<'a> {
     Quoted(u64),
     /// A GUID at the end of a text in quotes.
     Closed(u64),
-    /// The label of a switch with this name.
+    /// The label of the switch with this name.
     Label(&'a [u8]),
-    /// How many channels a loop has, at the end of a text in quotes; or with 0 that there is no loop.
+    /// The number of channels of a loop, or 0 for no loop, at the end of a text in quotes.
     Loop(usize),
-    /// How the label of a channel on a lane begins.
+    /// The start of the label of a channel on a lane.
     OnLane {
         /// The lane.
         lane: u8,
@@ -38,17 +38,23 @@ pub enum RowWord<'a> {
     },
 }
 
-/// What has a row in a text.
+/// A value that has a row in a text.
 pub trait HasRow {
     /// The words of its row.
     ghost words: { Self → List (List ℕ) };
 
     /// Appends its row.
+    ///
+    /// # Errors
+    /// `OutOfMemory`.
     fn push(&self, alloc: Global, text: &mut Vec<u8>) -> Result<(), OutOfMemory>
         ensures { OnOk result (text.new.items ≡ text.old.items ++ line_text (words self.now)) };
 }
 
-/// Appends the row of each item.
+/// Appends the row of each of `items`.
+///
+/// # Errors
+/// `OutOfMemory`.
 pub fn push_rows<T: HasRow>(
     alloc: Global,
     text: &mut Vec<u8>,
@@ -62,7 +68,10 @@ pub fn push_rows<T: HasRow>(
     Ok(())
 }
 
-/// Appends a row: its words are joined by one space each, and a line feed follows.
+/// Appends a row: its words, joined by single spaces, and a line feed.
+///
+/// # Errors
+/// `OutOfMemory`.
 pub fn push_row(
     alloc: Global,
     text: &mut Vec<u8>,

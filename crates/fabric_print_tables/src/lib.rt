@@ -1,7 +1,8 @@
-//! The text of forwarding tables, as OpenSM dumps them and loads them again.
+//! fabric, printers: forwarding tables as text, as OpenSM dumps and loads them.
 //!
-//! It stands on `an_base`, `common_lines`, `fabric_model`, `fabric_tables`, `fabric_routes` and `fabric_read_tables`. Its one contract: what `printer` gives is
-//! the text of the tables in the sense of `fabric_read_tables`, so that who reads it has these tables again.
+//! The crate depends on `common_lines`, `fabric_model`, `fabric_tables`, `fabric_routes` and `fabric_read_tables`. Its
+//! one contract: the output of `printer` is the text of the tables as `fabric_read_tables` defines it, so whoever reads
+//! it gets these tables again.
 #![tactic(auto)]
 
 pub mod printer;

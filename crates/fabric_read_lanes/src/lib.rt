@@ -1,10 +1,10 @@
-//! The lanes and the service levels of a fabric, read from texts: lanes from `opensm-sl2vl.dump`, or from what
-//! `smpquery sl2vl` prints of its switches; levels from a text that gives them path by path.
+//! fabric, readers: readers of SL2VL tables and of path service levels. SL2VL tables come from `opensm-sl2vl.dump`, or
+//! from the output of `smpquery sl2vl` for the switches; levels from a text that gives them path by path.
 //!
-//! It depends on `fabric_read_lines` and `fabric_lane_tables`. Its contract: `lane_reader` and `level_reader` say of which
-//! lanes or levels of a fabric the bytes that a source gave are the text, or which of their lines is the first that is
-//! faulty, and by which cause. No bytes are the text of two lanes or two assignments of levels, or have two first faults,
-//! or are a text and have a fault (`lane_law`, `level_law`).
+//! The crate depends on `fabric_read_lines` and `fabric_lane_tables`. Its contract: `lane_reader` and `level_reader`
+//! return the lanes or levels of a fabric of which the bytes that a source gave are the text, or which line is the
+//! first with an error, and its reason. No bytes are the text of two lanes or two assignments of levels, or have two
+//! first errors, or are a text and have an error (`lane_law`, `level_law`).
 #![tactic(auto)]
 
 pub mod lane_law;

@@ -1,4 +1,5 @@
--- Bytes that come in pieces, and what was read of them. Only what takes lines, and private functions, cite this.
+-- Bytes that come in pieces, and what was read of them. Only values that take lines, and private functions,
+-- cite this.
 use Rattle.std.specs.Prelude.{◌≡◌, ◌==◌, ◌+◌, ◌<◌, ◌≤◌, ℕ, Bool, List, ◌++◌, length, take, drop, position, ⊤}
 use Rattle.std.specs.Prelude.{Option, Some, None}
 use Rattle.std.specs.Str.Lines.{strip_carriage_return}
@@ -11,7 +12,7 @@ use Rattle.fabric_read_lines.specs.declared.reader.TextRefusal.{TextRefusal}
 use Rattle.fabric_read_lines.specs.declared.reader.TextRefusal.TheVariants as refusal
 use Rattle.fabric_read_lines.specs.Texts.{IsFaultOfAll, IsTextOf}
 
--- these are the lines of a front, whatever follows it
+-- `lines` are the lines of `front`, whatever follows it
 abbrev pub AreLinesOf : List (List ℕ) → List ℕ → Type 0
 AreLinesOf lines front = (more : List ℕ) → lines_of (front ++ more) ≡ lines ++ lines_of more
 
@@ -19,12 +20,12 @@ AreLinesOf lines front = (more : List ℕ) → lines_of (front ++ more) ≡ line
 abbrev pub is_feed : ℕ → Bool
 is_feed byte = byte == 10
 
--- the refusal of a text that was stopped at a line
+-- the rejection of a text that was stopped at `line`
 abbrev pub refused : {Cause : Type 0} → ℕ → Stop Cause → TextRefusal Cause
 refused line (Fault cause) = refusal.Fault line cause
 refused line OutOfMemory = refusal.OutOfMemory
 
--- a source gave so many bytes, and they were put after those that were held
+-- a source gave `more` bytes, and they were put after the first `count` bytes held
 pub record GavePiece (old new : Seen) (held held' : List ℕ) (count more : ℕ) : Type 0 where
   pub piece : List ℕ
   pub gave : Gave old new piece
@@ -33,24 +34,24 @@ pub record GavePiece (old new : Seen) (held held' : List ℕ) (count more : ℕ)
   pub within : count + more ≤ length held
   pub are_held : take (count + more) held' ≡ take count held ++ piece
 
--- bytes begin with a line that a line feed ends at this place, and of whose bytes this holds
+-- `bytes` begin with a line that ends with a line feed at index `end`, and of which `Is` holds
 pub record BeginsWith (bytes : List ℕ) (end : ℕ) (Is : List ℕ → Type 0) : Type 0 where
   pub ends : position is_feed bytes ≡ Some end
   pub here : Is (strip_carriage_return (take end bytes))
 
 module _ {State : Type 0} (adds : State → List ℕ → State → Type 0) where
-  -- the first line of the bytes was taken, which a line feed ends at this place; or nothing was taken
+  -- the first line of the bytes, which ends with a line feed at this index, was taken; or nothing was taken
   abbrev pub IsTakenInPlace : List ℕ → (old new : State) → Option ℕ → Type 0
   IsTakenInPlace bytes old new (Some end) = BeginsWith bytes end (λ line. adds old line new)
   IsTakenInPlace bytes old new None = new ≡ old
 
-  -- the same, and nothing was taken only if no line feed ends it
+  -- as `IsTakenInPlace`, but nothing was taken only if no line feed ends the line
   abbrev pub IsFirstTaken : List ℕ → (old new : State) → Option ℕ → Type 0
   IsFirstTaken bytes old new (Some end) = BeginsWith bytes end (λ line. adds old line new)
   IsFirstTaken bytes old new None = (position is_feed bytes ≡ None) × (new ≡ old)
 
-  -- the bytes were read as far as the rest: their lines before it are good and lead to this state, and the
-  -- rest begins with the line of this number
+  -- `bytes` were read as far as `rest`: their lines before it are valid and lead to `told`, and `rest` begins
+  -- with line number `line`
   pub record IsReadTo (start : State) (bytes rest : List ℕ) (told : State) (line : ℕ) : Type 0 where
     pub front : List ℕ
     pub lines : List (List ℕ)
@@ -59,31 +60,31 @@ module _ {State : Type 0} (adds : State → List ℕ → State → Type 0) where
     pub good : LeadsBy adds start lines told
     pub number : line ≡ length lines + 1
 
-  -- what is held was read on as far as this rest
+  -- reading continued from `held` as far as `rest`
   abbrev pub ReadsOn :
       (held : List ℕ) (old : State) (line : ℕ) (new : State) (next : ℕ) (rest : List ℕ) → Type 0
   ReadsOn held old line new next rest =
       (start : State) (bytes : List ℕ) → IsReadTo start bytes held old line
       → IsReadTo start bytes rest new next
 
-  -- what is held was read on as far as this rest, in which no line feed is left
+  -- reading continued from `held` as far as `rest`, which contains no line feed
   pub record IsReadOn (held : List ℕ) (old : State) (line : ℕ) (new : State) (next : ℕ) (rest : List ℕ)
       : Type 0 where
     pub read : ReadsOn held old line new next rest
     pub cut : position is_feed rest ≡ None
     pub few : next + length rest ≤ line + length held
 
-  -- all lines of the bytes are good and lead to this state, and so many less one are they
+  -- all lines of `bytes` are valid and lead to `told`, and there are `line` - 1 of them
   pub record AreAllRead (start : State) (bytes : List ℕ) (told : State) (line : ℕ) : Type 0 where
     pub good : LeadsBy adds start (lines_of bytes) told
     pub number : line ≡ length (lines_of bytes) + 1
 
-  -- what is held is the last line, which no line feed ends, or nothing: with it all is read
+  -- `rest` is the last line, which no line feed ends, or nothing: with it all is read
   abbrev pub IsLastRead : (rest : List ℕ) (old : State) (line : ℕ) (new : State) (next : ℕ) → Type 0
   IsLastRead rest old line new next =
       (start : State) (bytes : List ℕ) → IsReadTo start bytes rest old line → AreAllRead start bytes new next
 
--- the first line of the bytes, which a line feed ends, is faulty, or no memory was found
+-- the first line of the bytes, which a line feed ends, is invalid; or memory ran out
 abbrev pub IsFirstFaulty : {State Cause : Type 0} → (State → List ℕ → Cause → Type 0) → List ℕ → State → Stop Cause → Type 0
 IsFirstFaulty faulty bytes old (Fault cause) =
     (end : ℕ) × BeginsWith bytes end (λ line. faulty old line cause)
@@ -91,21 +92,21 @@ IsFirstFaulty faulty bytes old OutOfMemory = ⊤
 
 module _ {State Cause : Type 0} (adds : State → List ℕ → State → Type 0)
     (faulty : State → List ℕ → Cause → Type 0) (IsEnded : State → Type 0) (no_end : Cause) where
-  -- what is held has a fault, or no memory was found
+  -- the bytes in `held` have an error in line `here`; or memory ran out
   abbrev pub IsStoppedOn : (held : List ℕ) (old : State) (line here : ℕ) → Stop Cause → Type 0
   IsStoppedOn held old line here (Fault cause) =
       (start : State) (bytes : List ℕ) → IsReadTo adds start bytes held old line
       → IsFaultOfAll adds faulty IsEnded no_end start bytes here cause
   IsStoppedOn held old line here OutOfMemory = ⊤
 
-  -- the last line has a fault
+  -- the last line has an error; or memory ran out
   abbrev pub IsStoppedLast : (rest : List ℕ) (old : State) (line : ℕ) → Stop Cause → Type 0
   IsStoppedLast rest old line (Fault cause) =
       (start : State) (bytes : List ℕ) → IsReadTo adds start bytes rest old line
       → IsFaultOf start adds faulty IsEnded no_end bytes line cause
   IsStoppedLast rest old line OutOfMemory = ⊤
 
-  -- .. or the text may not end there
+  -- the last line has an error, or the text cannot end there; or memory ran out
   abbrev pub IsUnfinished : (rest : List ℕ) (old : State) (line : ℕ) → TextRefusal Cause → Type 0
   IsUnfinished rest old line (refusal.Fault here cause) =
       (start : State) (bytes : List ℕ) → IsReadTo adds start bytes rest old line
@@ -113,7 +114,7 @@ module _ {State Cause : Type 0} (adds : State → List ℕ → State → Type 0)
   IsUnfinished rest old line refusal.ReadFault = ⊥
   IsUnfinished rest old line refusal.OutOfMemory = ⊤
 
--- the bytes that are held at the end are the last of a text
+-- `rest`, held at the end, holds the last bytes of a text
 module _ {State : Type 0} (adds : State → List ℕ → State → Type 0) (IsEnded : State → Type 0) where
   abbrev pub IsFinished : (rest : List ℕ) (old : State) (line : ℕ) (new : State) → Type 0
   IsFinished rest old line new =

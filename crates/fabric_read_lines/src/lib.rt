@@ -1,8 +1,9 @@
-//! The reader of texts about a fabric, a piece at a time.
+//! fabric, readers: reader of a long text about a fabric, line by line.
 //!
-//! It stands on `outside`, `common_lines`, `fabric_words` and `fabric_model`. Its one contract: `reader` hands each
-//! line of what a source gave to what takes lines, and says to which state they lead, or which of them is
-//! the first that is faulty, and by which cause. Of the bytes none is kept.
+//! The readers of forwarding tables, of lanes and of service levels share it. It depends on `outside`, `common_lines`,
+//! `fabric_words` and `fabric_model`. Its one contract: `reader` passes each line that a source gave to a value that
+//! takes lines, and reports to which state they lead, or which line is the first that is invalid, and for which reason.
+//! It reads a piece at a time, and keeps no bytes.
 #![tactic(auto)]
 
 pub mod reader;

@@ -1,4 +1,4 @@
-//! The reader of the lines of what a source gives.
+//! The reader of the lines that a source gives.
 
 ghost use Rattle.std.specs.Prelude.{◌≡◌, ◌+◌, ◌<◌, ◌≤◌, ◌^◌, ◌-◌, None, IfOk, IfErr, OnOk, length};
 ghost use Rattle.std.specs.Prelude.{take, drop, position};
@@ -19,28 +19,28 @@ use fabric_words::text_cause::TextCause;
 use outside::source::{Got, Source};
 use std::alloc::Global;
 
-/// The most bytes of a line, without what ends it.
+/// The highest number of bytes of a line, without its line end.
 pub const MOST_LINE: usize = 4096;
 
-/// The most bytes of a text.
+/// The highest number of bytes of a text.
 pub const MOST_BYTES: u64 = 1 << 62;
 
 // How many bytes are held at once: those of a piece, and before them the front of a line.
 const HELD: usize = 65_536;
 
-/// Why a text is not read.
+/// Why a text is rejected.
 #[derive(Clone, Copy)]
 pub enum TextRefusal<Cause> {
-    /// The bytes are no text of the kind that was wanted.
+    /// The bytes are not a text of this kind.
     Fault {
-        /// The first faulty line, from 1.
+        /// The first line with an error, from 1.
         line: u64,
-        /// The first cause in that line.
+        /// The first reason in that line.
         cause: Cause,
     },
     /// A read failed.
     ReadFault,
-    /// No memory was found. It says nothing about the bytes.
+    /// Memory ran out. It says nothing about the bytes.
     OutOfMemory,
 }
 
@@ -62,8 +62,12 @@ fn refused<Cause>(line: u64, stop: Stop<Cause>) -> TextRefusal<Cause>
     }
 }
 
-/// Hands each line of what a source gives, to its end, to what takes them, a piece at a time. As the code
-/// is written, and by no clause, the time is linear in the bytes.
+/// Passes each line that `source` gives, up to its end, to `told`, in linear time (by design, not proved). The caller
+/// must pass a `told` that is fit for `fabric` and has counted no line.
+///
+/// # Errors
+/// `Fault` with the line of the first error and its reason, which can be that the text has too many bytes; `ReadFault`
+/// if a read failed; `OutOfMemory`, which says nothing about the bytes.
 pub fn read_text<S: Source, Cause: TextCause, T: TakesLines<Cause>>(
     told: &mut T,
     alloc: Global,

@@ -15,29 +15,30 @@ use Rattle.fabric_read_ranks.specs.declared.line.RankLine.{RankLine}
 use Rattle.fabric_read_ranks.specs.declared.line.RankLine.TheVariants.{Nothing, Head, Rank}
 use Rattle.fabric_read_ranks.specs.RankLines.{said_in}
 
--- what lines say so far: whether the head was among them, and the rank of each channel, by its number
+-- the state after the lines so far: whether the head was among them, and the rank of each channel, by its
+-- number
 pub record Told : Type 0 where
   pub begun : Bool
   pub ranks : List (Option ℕ)
 
--- what no lines say
+-- the state before all lines
 abbrev pub none_told : FabricOf → Told
 none_told fabric = record { begun = false; ranks = replicate (switch_count fabric * fabric.most) None }
 
--- what is told after a line, or why the line is faulty
+-- the state after a line, or the reason for which the line is invalid
 abbrev pub Step : Type 0
 Step = Result Told RanksCause
 
--- the head stands once, and before all ranks
+-- the head occurs once, and before all ranks
 abbrev pub head_told : Told → Step
 head_told told = if told.begun then Err OutOfPlace else Ok (record told { begun = true })
 
--- a rank is told once
+-- each channel has one rank
 abbrev pub put_once : Told → (place rank : ℕ) → Option ℕ → Step
 put_once told place rank None = Ok (record told { ranks = set told.ranks place (Some rank) })
 put_once told place rank (Some other) = Err RankTold
 
--- of a port that leads to a switch
+-- `put_once` for a port that leads to a switch; `channel_told` finds the port
 abbrev pub put_over : Told → (place rank : ℕ) → Side → Step
 put_over told place rank (To next entry) = put_once told place rank (slice_index_or told.ranks place None)
 put_over told place rank Bare = Err NoChannel
@@ -47,13 +48,13 @@ abbrev pub channel_told : FabricOf → Told → Channel → ℕ → Step
 channel_told fabric told channel rank =
     put_over told (number fabric channel) rank (side_of fabric channel.switch channel.port)
 
--- of a switch that the fabric has
+-- the rank for a port of a switch that the fabric has
 abbrev pub switch_told : FabricOf → Told → (port rank : ℕ) → Option ℕ → Step
 switch_told fabric told port rank None = Err UnknownSwitch
 switch_told fabric told port rank (Some switch) =
     channel_told fabric told (record { switch = switch; port = port }) rank
 
--- what is told after what a line says
+-- the state after a line with this meaning
 abbrev pub told_with : FabricOf → Told → RankLine → Step
 told_with fabric told Nothing = Ok told
 told_with fabric told Head = head_told told
@@ -63,7 +64,8 @@ told_with fabric told (Rank guid port rank) =
 abbrev pub after_said : FabricOf → Told → Result RankLine RanksCause → Step
 after_said fabric told said = and_then said (told_with fabric told)
 
--- a line is good after what was told, and leads to more; or it is faulty, first by this cause
+-- `AddsTo`: the line is valid in state `told`, and leads to `after`; `IsFaultyAfter`: it is invalid, first
+-- for this reason
 abbrev pub AddsTo : FabricOf → Told → List ℕ → Told → Type 0
 AddsTo fabric told line after = after_said fabric told (said_in line) ≡ Ok after
 
@@ -73,14 +75,14 @@ IsFaultyAfter fabric told line cause = after_said fabric told (said_in line) ≡
 abbrev pub HasBegun : Told → Type 0
 HasBegun told = told.begun ≡ true
 
--- The bytes are the text of these ranks, by the numbers of channels: each line is good after those before it, the head
--- is there, and the ranks are what the lines say, 0 if they say none.
+-- `bytes` are the text of `ranks`, by the numbers of channels: each line is valid after those before it, the
+-- head is there, and the ranks are those of the lines, 0 where they give none.
 pub record IsRanksText (fabric : FabricOf) (bytes ranks : List ℕ) : Type 0 where
   pub last : Told
   pub good : LeadsBy (AddsTo fabric) (none_told fabric) (lines_of bytes) last
   pub begun : HasBegun last
   pub says : ranks ≡ map (λ rank. unwrap_or rank 0) last.ranks
 
--- the first fault of the bytes, as the text of ranks, is in this line and of this cause
+-- the first error of the bytes, as the text of ranks, is in this line and for this reason
 abbrev pub IsRanksFault : FabricOf → List ℕ → ℕ → RanksCause → Type 0
 IsRanksFault fabric = IsFaultOf (none_told fabric) (AddsTo fabric) (IsFaultyAfter fabric) HasBegun NoHead

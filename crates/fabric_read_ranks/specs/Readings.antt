@@ -7,6 +7,6 @@ use Rattle.fabric_read_ranks.specs.Ranks.{Told}
 abbrev pub told_of : Reading → Told
 told_of reading = record { begun = reading.begun; ranks = reading.ranks.items }
 
--- there is a place for the rank of each channel
+-- `reading` has a place for the rank of each channel
 abbrev pub HasPlaces : FabricOf → Reading → Type 0
 HasPlaces fabric reading = length reading.ranks.items ≡ switch_count fabric * fabric.most

@@ -1,11 +1,12 @@
-//! What the reader's contract comes to. No function here has code.
+//! What the reader's contract means. No function here has code.
 
 ghost use Rattle.std.specs.Prelude.{◌≡◌, ◌⊎◌, ℕ, List};
 ghost use Rattle.fabric_model.specs.Fabric.{FabricOf};
 ghost use Rattle.fabric_words.specs.declared.ranks_cause.RanksCause.{RanksCause};
 ghost use Rattle.fabric_read_ranks.specs.Ranks.{IsRanksFault, IsRanksText};
 
-/// Bytes are the text of one list of ranks, or have one first fault, and not both; and one of the two comes.
+/// Proves that bytes are the text of one list of ranks, or have one first error, and not both; and that one of the two
+/// holds.
 pub fn text_or_fault()
     ensures one_list { (fabric : FabricOf) (bytes one other : List ℕ)
         → IsRanksText fabric bytes one → IsRanksText fabric bytes other → one ≡ other }

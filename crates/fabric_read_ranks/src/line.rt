@@ -1,4 +1,4 @@
-//! What a line of a text of ranks says.
+//! The meaning of a line of ranks.
 
 ghost use Rattle.std.specs.Prelude.{◌≡◌, map};
 ghost use Rattle.fabric_read_ranks.specs.RankLines.{rank_said, said_by, said_by_four, said_by_two};
@@ -7,18 +7,21 @@ use common_lines::word::is;
 use fabric_words::digits::{hex_after, number_to};
 use fabric_words::ranks_cause::RanksCause;
 
-/// What a line says.
+/// The meaning of a line.
 #[derive(Clone, Copy)]
 pub enum RankLine {
     /// Nothing: it is blank.
     Nothing,
-    /// The ranks begin.
+    /// The head, after which the ranks begin.
     Head,
     /// The rank of a channel: the GUID of its switch, the port, and the rank.
     Rank(u64, u8, u32),
 }
 
-/// What the words of a line say, or why they say nothing.
+/// Returns the meaning of a line with these words.
+///
+/// # Errors
+/// The first reason for which they are not a line of ranks.
 pub fn said_by(words: &[&[u8]]) -> Result<RankLine, RanksCause>
     ensures { result ≡ said_by (map (λ w. w.now) words.now) }
 {

@@ -14,12 +14,14 @@ use fabric_model::fabric::Fabric;
 use fabric_words::ranks_cause::RanksCause;
 use std::alloc::Global;
 
-/// Why bytes tell no ranks: the first faulty line with its first cause, or no memory.
+/// Why bytes are not the text of ranks: the first line with an error and its first reason, or out of memory.
 pub type RanksRefusal = Refusal<RanksCause>;
 
-/// The ranks that the bytes are the text of, by the numbers of channels: that of the channel out of port p of
-/// switch s stands at the place s times the most ports of a switch, plus p - 1; 0 if the text tells none.
-/// `OutOfMemory` says nothing of the bytes.
+/// Parses ranks, by the numbers of channels: the rank of the channel out of port p of switch s is at index s times the
+/// most ports of a switch, plus p - 1; it is 0 if the text gives none. The caller must pass fewer than 2^32 - 1 bytes.
+///
+/// # Errors
+/// The first line of `bytes` with an error, and its first reason; or `OutOfMemory`, which says nothing about `bytes`.
 pub fn read_ranks(alloc: Global, fabric: &Fabric, bytes: &[u8]) -> Result<Vec<u32>, RanksRefusal>
     requires few { length bytes.now < 2 ^ 32 - 1 }
     ensures text { IfOk result (λ ranks. IsRanksText fabric.now bytes.now ranks.items) }

@@ -1,4 +1,4 @@
-//! What the lines of ranks say so far.
+//! The meaning of the lines of ranks read so far.
 
 ghost use Rattle.std.specs.Prelude.{◌≡◌, ◌<◌, Ok, Err, None, IfOk, OnOk, length, map, replicate, slice_index_or, unwrap_or};
 ghost use Rattle.common_lines.specs.Stops.{IsStep};
@@ -16,10 +16,10 @@ use fabric_model::node::Side;
 use fabric_words::ranks_cause::RanksCause;
 use std::alloc::Global;
 
-/// Why a line adds nothing.
+/// Why a line is rejected.
 pub type RanksStop = Stop<RanksCause>;
 
-/// What so many lines say.
+/// The meaning of the lines read so far.
 #[derive(Drop)]
 pub struct Reading {
     // Whether the head was among them.
@@ -36,7 +36,10 @@ fn no_ranks(alloc: Global, count: usize) -> Result<Vec<Option<u32>>, OutOfMemory
 }
 
 impl Reading {
-    /// What no lines say.
+    /// Creates the meaning of no lines.
+    ///
+    /// # Errors
+    /// `OutOfMemory`.
     pub fn new(alloc: Global, fabric: &Fabric) -> Result<Reading, OutOfMemory>
         ensures { IfOk result (λ reading. told_of reading ≡ none_told fabric.now) }
     {
@@ -47,14 +50,17 @@ impl Reading {
         })
     }
 
-    /// Whether the head was among the lines.
+    /// Reports whether the head was among the lines.
     pub fn has_begun(&self) -> bool
         ensures { result ≡ self.now.begun }
     {
         self.begun
     }
 
-    /// The ranks that were told, 0 if none was.
+    /// Returns the ranks, 0 where the lines give none.
+    ///
+    /// # Errors
+    /// `OutOfMemory`.
     pub fn ranks(&self, alloc: Global) -> Result<Vec<u32>, OutOfMemory>
         ensures { IfOk result (λ ranks. ranks.items ≡ map (λ rank. unwrap_or rank 0) self.now.ranks.items) }
     {
@@ -65,7 +71,11 @@ impl Reading {
         Ok(ranks)
     }
 
-    /// Adds what the next line says, without what ends it.
+    /// Adds the meaning of the next line, without its line end. The caller must pass the fabric for which the reading
+    /// was created.
+    ///
+    /// # Errors
+    /// The first reason for which the line is invalid, or out of memory.
     pub fn add_line(&mut self, alloc: Global, fabric: &Fabric, line: &[u8]) -> Result<(), RanksStop>
         requires { HasPlaces fabric.now self.old }
         ensures step { IsStep result (AddsTo fabric.now (told_of self.old) line.now (told_of self.new))

@@ -1,8 +1,8 @@
-//! The forwarding tables of a fabric, read from what the tools of every day print.
+//! fabric, readers: reader of forwarding tables, as the everyday tools print them.
 //!
-//! It stands on `outside`, `common_lines`, `fabric_model` and `fabric_tables`. Its one contract: `reader` says of which
-//! tables of a fabric the bytes that a source gave are the text, or which of their lines is the first that
-//! is faulty, and by which cause. The bytes are read a piece at a time, and only the cells are kept.
+//! The crate depends on `outside`, `common_lines`, `fabric_model` and `fabric_tables`. Its one contract: `reader`
+//! returns the tables of which the bytes that a source gave are the text, or which line is the first with an error, and
+//! its reason. It reads a piece at a time, and keeps only the cells.
 #![tactic(auto)]
 
 pub mod cause;

@@ -1,4 +1,4 @@
--- The words for each cause.
+-- The words for each reason.
 use Rattle.std.specs.Prelude.{ℕ, List, codes}
 use Rattle.fabric_model.specs.declared.node.LinkFault.{LinkFault}
 use Rattle.fabric_model.specs.declared.node.LinkFault.TheVariants.{NoPort, Differs as LinkDiffers}

@@ -1,5 +1,5 @@
--- The text of a fabric. It is gone over twice: for its forms and nodes, and then for the links between these,
--- since a link may stand before its nodes.
+-- The text of a fabric. It is read twice: for its forms and nodes, and then for the links between them,
+-- because a link can precede its nodes.
 use Rattle.std.specs.Prelude.{◌⊎◌, ℕ, List, []}
 use Rattle.fabric_model.specs.Fabric.{FabricOf, IsBareOf}
 use Rattle.fabric_model.specs.Nodes.{NodesOf}
@@ -10,25 +10,26 @@ use Rattle.fabric_read_topology.specs.Lines.{IsFaultFrom, IsTextFrom}
 abbrev pub no_nodes : NodesOf
 no_nodes = record { switches = []; ends = [] }
 
--- the bytes tell of the nodes of this fabric, which has no links yet
+-- `bytes` describe the nodes of `fabric`, which has no links yet
 pub record HasNodes (bytes : List ℕ) (fabric : FabricOf) : Type 0 where
   pub nodes : NodesOf
   pub told : IsTextFrom AddsNode no_nodes bytes nodes
   pub bare : IsBareOf nodes fabric
 
--- the bytes are the text of this fabric: it has their nodes and their links
+-- `bytes` are the text of `fabric`: it has their nodes and their links
 pub record IsFabricText (bytes : List ℕ) (fabric : FabricOf) : Type 0 where
   pub bare : FabricOf
   pub nodes : HasNodes bytes bare
   pub links : IsTextFrom AddsLink bare bytes fabric
 
--- their nodes are good, and the first faulty line tells of a link
+-- the nodes in `bytes` are valid, and the first line with an error has an invalid link
 pub record HasFaultyLink (bytes : List ℕ) (line : ℕ) (cause : FabricCause) : Type 0 where
   pub bare : FabricOf
   pub nodes : HasNodes bytes bare
   pub fault : IsFaultFrom AddsLink IsFaultyLink bare bytes line cause
 
--- the first fault of the bytes, in a form or a node before one in a link, is in this line and of this cause
+-- the first error of the bytes is in this line and for this reason; an error in a form or node precedes one
+-- in a link
 abbrev pub IsFault : List ℕ → ℕ → FabricCause → Type 0
 IsFault bytes line cause =
     IsFaultFrom AddsNode IsFaultyNode no_nodes bytes line cause ⊎ HasFaultyLink bytes line cause

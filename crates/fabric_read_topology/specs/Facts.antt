@@ -1,4 +1,4 @@
--- What facts tell: first of nodes, and then of links between them.
+-- What facts add to a fabric: first nodes, and then links between them.
 use Rattle.std.specs.Prelude.{◌≡◌, ◌≢◌, ◌==◌, ◌≤◌, ◌⊎◌, ℕ, Option, Some, None, if◌then◌else◌}
 use Rattle.std.specs.Prelude.{List, fold, option_to_list}
 use Rattle.std.specs.Option.{option_map, option_or}
@@ -23,23 +23,23 @@ use Rattle.fabric_read_topology.specs.declared.cause.FabricCause.{FabricCause}
 use Rattle.fabric_read_topology.specs.declared.cause.FabricCause.TheVariants.{Text, Range, Node, Link, LidDiffers}
 use Rattle.fabric_read_topology.specs.declared.cause.FabricCause.TheVariants.{UnknownSwitch}
 
--- the base LID of which a number tells: 65535 is none, as 0 is
+-- the base LID that `number` means: 65535 means none, as 0 does
 abbrev pub base_of : ℕ → ℕ
 base_of number = if number == 0xFFFF then 0 else number
 
--- LIDs from a base on, and a switch
+-- `range_of`: the LIDs from a base on; `switch_of`: a switch with these LIDs
 abbrev pub range_of : ℕ → ℕ → LidRange
 range_of base lmc = record { base = base_of base; lmc = lmc }
 
 abbrev pub switch_of : ℕ → ℕ → ℕ → Switch
 switch_of ports base lmc = record { ports = ports; lids = range_of base lmc }
 
--- numbers that can be a base LID and an LMC
+-- `base` and `lmc` can be a base LID and an LMC
 pub record AreLids (base lmc : ℕ) : Type 0 where
   pub low : base_of base ≤ 0xBFFF
   pub small : lmc ≤ 255
 
--- a node is added, if the fact tells of one
+-- the node of the fact is added, if the fact gives one
 abbrev pub AddsNode : NodesOf → Fact → NodesOf → Type 0
 AddsNode old (fact.Switch guid ports base lmc) new =
     (ports ≤ 255) × AreLids base lmc × AddsSwitch old new guid (switch_of ports base lmc)
@@ -48,11 +48,11 @@ AddsNode old (fact.Link one other) new = new ≡ old
 AddsNode old (fact.Neighbour guid base) new = new ≡ old
 AddsNode old (fact.HasSwitch guid) new = new ≡ old
 
--- the end port of a fact is noted, if it says that its base LID is 65535
+-- the end port of the fact is noted, if it has the base LID 65535
 abbrev pub AddsUnset : List ℕ → Fact → List ℕ → Type 0
 AddsUnset old said new = new ≡ fold put_once old (option_to_list (unset_end said))
 
--- the cause is that a number is out of range, or a fault for which a node is refused
+-- the reason is that a number is out of range, or one for which the node is rejected
 abbrev pub IsNodeCause : Type 0 → (NodeFault → Type 0) → FabricCause → Type 0
 IsNodeCause range refused Range = ¬ range
 IsNodeCause range refused (Node fault) = range × refused fault
@@ -61,12 +61,12 @@ IsNodeCause range refused (Link fault) = ⊥
 IsNodeCause range refused LidDiffers = ⊥
 IsNodeCause range refused UnknownSwitch = ⊥
 
--- why a node stops the reader
+-- the reason for which a node stops the reader
 abbrev pub node_stop : Stop NodeFault → Stop FabricCause
 node_stop (Fault fault) = Fault (Node fault)
 node_stop OutOfMemory = OutOfMemory
 
--- the node of a fact is refused by this cause
+-- the node of the fact is rejected for this reason
 abbrev pub IsFaultyNode : NodesOf → Fact → FabricCause → Type 0
 IsFaultyNode old (fact.Switch guid ports base lmc) cause =
     IsNodeCause ((ports ≤ 255) × AreLids base lmc) (IsRefusedSwitch old guid (switch_of ports base lmc)) cause
@@ -79,7 +79,8 @@ IsFaultyNode old (fact.HasSwitch guid) cause = ⊥
 abbrev pub spot_of : ℕ → ℕ → Spot
 spot_of switch port = record { switch = switch; port = port }
 
--- Two ports of switches are linked, by the places of these; a port of a switch that was not told of is none.
+-- Two ports of switches are linked, by the indices of the switches; if the text has no such switch, nothing
+-- changes.
 abbrev pub LinksPorts : FabricOf → Option ℕ → ℕ → Option ℕ → ℕ → FabricOf → Type 0
 LinksPorts old None port other far new = new ≡ old
 LinksPorts old (Some switch) port None far new = new ≡ old
@@ -87,7 +88,7 @@ LinksPorts old (Some switch) port (Some other) far new =
     MayLink old (spot_of switch port) (spot_of other far)
     × IsLinked old new (spot_of switch port) (spot_of other far)
 
--- an end port is cabled to the port of a switch, in the same way
+-- an end port is cabled to the port of a switch; if the text has no such end port or switch, nothing changes
 abbrev pub CablesPort : FabricOf → Option ℕ → ℕ → Option ℕ → FabricOf → Type 0
 CablesPort old None port end new = new ≡ old
 CablesPort old (Some switch) port None new = new ≡ old
@@ -109,12 +110,12 @@ abbrev pub node_with : FabricOf → ℕ → Option EndPort
 node_with fabric guid =
     option_or (option_map port.Switch (switch_with fabric guid)) (option_map port.Host (end_with fabric guid))
 
--- a LID is one of an end port, if this was told of; 0 is none
+-- `lid` belongs to the end port, if the text has it; 0 always does
 abbrev pub IsLidOf : FabricOf → Option EndPort → ℕ → Type 0
 IsLidOf fabric None lid = Unit {0}
 IsLidOf fabric (Some owner) lid = (lid ≡ 0) ⊎ (owner_of fabric lid ≡ Some owner)
 
--- a link is added, a neighbour's LID is its own, or a switch that is named is there, if the fact tells of one
+-- by this fact, a link is added, a neighbour's LID is right, or the switch that a line names is there
 abbrev pub AddsLink : FabricOf → Fact → FabricOf → Type 0
 AddsLink old (fact.Switch guid ports base lmc) new = new ≡ old
 AddsLink old (fact.Host guid base lmc) new = new ≡ old
@@ -123,7 +124,8 @@ AddsLink old (fact.Neighbour guid base) new =
     IsLidOf old (node_with old guid) (base_of base) × (new ≡ old)
 AddsLink old (fact.HasSwitch guid) new = (switch_with old guid ≢ None) × (new ≡ old)
 
--- two ports cannot be linked, or not cabled, by this fault
+-- `IsNoLink`: two ports cannot be linked, for this reason; `IsNoCable`: an end port and a port cannot be
+-- cabled
 abbrev pub IsNoLink : FabricOf → Option ℕ → ℕ → Option ℕ → ℕ → LinkFault → Type 0
 IsNoLink old None port other far fault = ⊥
 IsNoLink old (Some switch) port None far fault = ⊥
@@ -135,7 +137,7 @@ IsNoCable old None port end fault = ⊥
 IsNoCable old (Some switch) port None fault = ⊥
 IsNoCable old (Some switch) port (Some end) fault = IsRefusedCable old end (spot_of switch port) fault
 
--- two ports, as they were told, cannot be joined
+-- two ports, as the text gives them, cannot be joined, for this reason
 abbrev pub CannotJoin : FabricOf → PortTold → PortTold → LinkFault → Type 0
 CannotJoin old (OfSwitch guid port) (OfSwitch other far) fault =
     IsNoLink old (switch_with old guid) port (switch_with old other) far fault
@@ -145,7 +147,7 @@ CannotJoin old (OfHost end) (OfSwitch guid port) fault =
     IsNoCable old (switch_with old guid) port (end_with old end) fault
 CannotJoin old (OfHost end) (OfHost other) fault = ⊥
 
--- the cause is a fault for which a link is refused
+-- the reason is one for which the link is rejected
 abbrev pub IsLinkCause : (LinkFault → Type 0) → FabricCause → Type 0
 IsLinkCause refused (Link fault) = refused fault
 IsLinkCause refused (Text fault) = ⊥
@@ -154,7 +156,7 @@ IsLinkCause refused (Node fault) = ⊥
 IsLinkCause refused LidDiffers = ⊥
 IsLinkCause refused UnknownSwitch = ⊥
 
--- the link of a fact, its LID of a neighbour, or the switch that it names, is refused by this cause
+-- the link of the fact, its LID of a neighbour, or the switch that it names, is rejected for this reason
 abbrev pub IsFaultyLink : FabricOf → Fact → FabricCause → Type 0
 IsFaultyLink old (fact.Switch guid ports base lmc) cause = ⊥
 IsFaultyLink old (fact.Host guid base lmc) cause = ⊥

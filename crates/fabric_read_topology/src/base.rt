@@ -9,14 +9,14 @@ use fabric_topology::fact::Fact;
 // What an end port tells as its base LID if nothing has given it one.
 const UNSET: u64 = 0xFFFF;
 
-/// The base LID of which a number tells: 65535 is none, as 0 is.
+/// Returns the base LID that `number` means: 65535 means none, as 0 does.
 pub fn base_of(number: u64) -> u64
     ensures { result ≡ base_of number }
 {
     if number == UNSET { 0 } else { number }
 }
 
-/// The GUID of the switch or end port of which a fact says that its base LID is 65535.
+/// Returns the GUID of the switch or end port that has the base LID 65535, by this fact.
 pub fn unset_end(fact: Fact) -> Option<u64>
     ensures { result ≡ unset_end fact }
 {

@@ -1,4 +1,4 @@
-//! Why a text tells of no fabric.
+//! Why a text is not a topology of a fabric.
 
 ghost use Rattle.std.specs.Prelude.{◌≡◌};
 ghost use Rattle.fabric_read_topology.specs.Causes.{cause_text};
@@ -6,25 +6,25 @@ ghost use Rattle.fabric_read_topology.specs.Causes.{cause_text};
 use fabric_model::node::{LinkFault, NodeFault};
 use fabric_topology::cause::TopologyCause;
 
-/// What is wrong with a line.
+/// The error in a line.
 #[derive(Clone, Copy)]
 pub enum FabricCause {
-    /// It is no line of a topology where it stands.
+    /// It is not a line of a topology at its part of the text.
     Text(TopologyCause),
-    /// A number of ports is above 254, that of a port above 255, an LMC above 7 or a LID above 0xBFFF.
+    /// A number of ports is above 254, the number of a port above 255, an LMC above 7, or a LID above 0xBFFF.
     Range,
-    /// A node of it is refused.
+    /// A node of it is rejected.
     Node(NodeFault),
-    /// A link of it is refused.
+    /// A link of it is rejected.
     Link(LinkFault),
-    /// A neighbour tells another LID of a node than the node's own line.
+    /// A neighbour gives a node another LID than the node's own line does.
     LidDiffers,
     /// A plain text does not have a switch that the line names.
     UnknownSwitch,
 }
 
 impl FabricCause {
-    /// The words for a cause.
+    /// Returns the words for the reason.
     pub fn text(self) -> &'static str
         ensures { result.now ≡ cause_text self }
     {

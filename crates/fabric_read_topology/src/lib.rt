@@ -1,12 +1,13 @@
-//! The fabric that the text of a topology tells of.
+//! fabric, readers: reader of topology files.
 //!
-//! It stands on `fabric_topology`, which says what lines tell, on `fabric_model`, which takes nodes and links, and on
-//! `indexmap`. Its contract: `read::read_fabric` answers a fabric only if the bytes are its text, with the number of
-//! its end ports whose base LID was told to be 65535, which is none. Else it answers the first faulty line with its
-//! first cause; out of memory may come in place of either. A text is gone over twice, for forms and nodes and then for
-//! links, and a fault of the first time comes before one of the second. No bytes are the text of two fabrics, or have
-//! two first faults, or are the text of a fabric and have a fault; a text's fabric is one, and each link of it has two
-//! ends (`law`).
+//! The crate depends on `fabric_topology`, for the meaning of lines, on `fabric_model`, which takes nodes and links,
+//! and on `indexmap`. Its contract: `read::read_fabric` returns a fabric only if the bytes are its text, with the
+//! number of its end ports that have the base LID 65535, which means none. Otherwise it returns the first line with an
+//! error, and its first reason; or it runs out of memory, whatever the bytes are.
+//!
+//! A text is read twice, for forms and nodes and then for links, and an error of the first pass comes before one of the
+//! second. No bytes are the text of two fabrics, or have two first errors, or are the text of a fabric and have an
+//! error. In the fabric of a text, each link has two ends (`law`).
 #![tactic(auto)]
 
 mod base;

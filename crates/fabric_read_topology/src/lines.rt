@@ -1,4 +1,4 @@
-//! The lines of a text, and what takes their facts.
+//! The lines of a text, and the trait that takes their facts.
 
 ghost use Rattle.std.specs.Prelude.{◌<◌, ◌-◌, ◌^◌, length, IfErr, OnOk};
 ghost use Rattle.common_lines.specs.Stops.{IsStep, IsRefusalBy};
@@ -14,23 +14,29 @@ use fabric_topology::cause::TopologyCause;
 use fabric_topology::fact::{Fact, Line, Part};
 use fabric_topology::reader::{MOST_LINE, may_end, says};
 
-/// Why bytes tell of no fabric: the first faulty line with its first cause, or no memory.
+/// Why bytes are not the text of a fabric: the first line with an error and its first reason, or out of memory.
 pub type FabricRefusal = Refusal<FabricCause>;
 
-/// What takes the facts of a text, one by one.
+/// A reader that takes the facts of a text, one by one.
 pub(crate) trait Takes {
-    /// A fact is good after those that were taken, and this is then told.
+    /// A fact is valid after those taken so far, and leads to this state.
     ghost adds: { Self → Fact → Self → Type 0 };
 
-    /// A fact is faulty there, first by this cause.
+    /// A fact is invalid there, and this is the first reason.
     ghost is_faulty: { Self → Fact → FabricCause → Type 0 };
 
     /// Takes a fact.
+    ///
+    /// # Errors
+    /// The first reason for which the fact is invalid, or out of memory.
     fn take(&mut self, fact: Fact) -> Result<(), Stop<FabricCause>>
         ensures { IsStep result (adds self.old fact self.new) (is_faulty self.old fact) };
 }
 
-/// Takes the facts of all lines of a text.
+/// Takes the facts of all lines of a text. The caller must pass fewer than 2^32 - 1 bytes.
+///
+/// # Errors
+/// The first line with an error and its first reason, or out of memory.
 pub(crate) fn read_lines<T: Takes>(told: &mut T, bytes: &[u8]) -> Result<(), FabricRefusal>
     requires { length bytes.now < 2 ^ 32 - 1 }
     ensures text { OnOk result (IsTextFrom T.adds told.old bytes.now told.new) }

@@ -1,4 +1,4 @@
-//! The links among facts, the switches that are named, and what neighbours tell.
+//! The links among facts, the switches that lines name, and the LIDs that neighbours give.
 
 ghost use Rattle.std.specs.Prelude.{◌≡◌, ◌<◌, ◌↔◌, IfErr, IfOk, IsTrue, OnOk, Some};
 ghost use Rattle.fabric_model.specs.Fabric.{IsPort, end_with, switch_count, switch_with};

@@ -18,17 +18,20 @@ use fabric_topology::fact::Fact;
 use indexmap::IndexSet;
 use std::alloc::Global;
 
-/// The nodes of which facts tell.
+/// The nodes of the facts taken so far.
 #[derive(Drop)]
 pub struct ToldNodes {
     /// The nodes.
     pub nodes: Nodes,
-    /// The GUIDs of those that say that their base LID is 65535.
+    /// The GUIDs of those that have the base LID 65535.
     pub unset: IndexSet<u64>,
 }
 
 impl ToldNodes {
-    /// No nodes.
+    /// Creates an empty set of nodes.
+    ///
+    /// # Errors
+    /// `OutOfMemory`.
     pub fn new(alloc: Global) -> Result<ToldNodes, OutOfMemory>
         ensures nodes { IfOk result (λ told. told.nodes ≡ no_nodes) }
         ensures unset { IfOk result (λ told. told.unset.keys ≡ []) }

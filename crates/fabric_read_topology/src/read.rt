@@ -12,18 +12,21 @@ use crate::nodes::ToldNodes;
 use fabric_model::fabric::Fabric;
 use std::alloc::Global;
 
-/// What the text of a fabric tells.
+/// The meaning of the text of a fabric.
 #[derive(Drop)]
 pub struct ToldFabric {
     /// The fabric.
     pub fabric: Fabric,
-    /// How many of its switches and end ports say that their base LID is 65535. They own none: their links are up, and
+    /// The number of its switches and end ports that have the base LID 65535. They own no LID: their links are up, and
     /// no subnet manager has given them one.
     pub unset: usize,
 }
 
-/// What bytes tell, if they are the text of a fabric. As the code is written, and by no clause, the time is linear in
-/// the bytes, but for the sorting of nodes. `OutOfMemory` says nothing of the bytes.
+/// Parses a topology, in linear time except for sorting the nodes (by design, not proved). The caller must pass fewer
+/// than 2^32 - 1 bytes.
+///
+/// # Errors
+/// The first line of `bytes` with an error, and its first reason; or `OutOfMemory`, which says nothing about `bytes`.
 pub fn read_fabric(alloc: Global, bytes: &[u8]) -> Result<ToldFabric, FabricRefusal>
     requires few { length bytes.now < 2 ^ 32 - 1 }
     ensures text { IfOk result (λ told. IsFabricText bytes.now told.fabric) }

@@ -1,10 +1,10 @@
-//! Given tables repaired: few rows of them set, so that the routes of a traffic arrive and rise along one order of the
-//! channels.
+//! fabric, routing engine: given tables, repaired: few rows changed, so that the routes of a traffic arrive and rise
+//! along one order of the channels.
 //!
-//! It stands on `an_base`, `fabric_model`, `fabric_tables`, `fabric_routes`, `fabric_engine_channels`, `fabric_engine_orders`, `fabric_engine_sorting`, `fabric_engine_rising` and
-//! `fabric_engine`. Its contract: `repair` answers tables with as many cells as the given ones, and takes no port away.
-//! Each row for a LID that nobody owns is as it was. That these tables are good, and that few rows are set, is not
-//! proved: who takes them has them judged. `keep` answers the same tables again.
+//! The crate depends on `fabric_model`, `fabric_tables` and `fabric_engine`, and on the crates of the engine below it.
+//! Its contract: `repair` returns tables with as many cells as the given ones, and removes no port; each row for a LID
+//! that nobody owns is unchanged. `keep` returns the given tables. We do not prove that the repaired tables are good,
+//! or that few rows change: whoever uses them must judge them.
 #![tactic(auto)]
 
 mod changes;

@@ -1,10 +1,10 @@
-//! The commands of `fabric` that repair tables: `repair` tells which rows are to be set, `repaired` gives the tables in
-//! which they are.
+//! fabric, commands: `repair` and `repaired`: `repair` prints which rows to change, `repaired` prints the tables with
+//! these rows.
 //!
-//! It stands on `fabric_repair`, which finds the rows, on the verdict, and on the text of tables. Its one contract: what each
-//! command gives for the text of a topology, its fabric and tables. With status 0 rows are told, or the given tables with
-//! such rows set, and these pass: there is no credit loop, and each route of the traffic arrives. That few rows are set
-//! is not claimed, nor that two calls find the same rows.
+//! The crate depends on `fabric_repair`, which finds the rows, on the verdict, and on the text of tables. Its one
+//! contract: what each command gives for the text of a topology, its fabric and its tables. With exit status 0 it
+//! prints rows, or the given tables with such rows changed, and these tables pass: there is no credit loop, and every
+//! route of the traffic arrives. We do not prove that few rows change, or that two calls find the same rows.
 #![tactic(auto)]
 
 pub mod commands;

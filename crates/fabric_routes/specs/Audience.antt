@@ -11,23 +11,23 @@ use Rattle.fabric_routes.specs.declared.audience.Audience.TheVariants.{Nobody, H
 use Rattle.fabric_routes.specs.declared.audience.Targets.{Targets}
 use Rattle.fabric_routes.specs.Routes.{IsSource, Sends}
 
--- an end port is of an audience
+-- `source` belongs to `audience`
 abbrev pub IsHeardFrom : FabricOf → Audience → EndPort → Type 0
 IsHeardFrom fabric Nobody source = ⊥
 IsHeardFrom fabric Hosts source = IsSource fabric Lids source
 IsHeardFrom fabric Everyone source = IsSource fabric All source
 
--- and does not own the LID
+-- `source` belongs to `audience` and does not own `lid`
 pub record IsHeard (fabric : FabricOf) (audience : Audience) (lid : ℕ) (source : EndPort) : Type 0 where
   pub is_from : IsHeardFrom fabric audience source
   pub other : owner_of fabric lid ≢ Some source
 
--- just these send to the LID
+-- `audience` is the set of end ports that send to `lid`
 abbrev pub IsAudience : FabricOf → TablesOf → Traffic → ℕ → Audience → Type 0
 IsAudience fabric tables traffic lid audience =
     (source : EndPort) → (Sends fabric tables traffic lid source ↔ IsHeard fabric audience lid source)
 
--- the LIDs of a block by their audiences, as bits
+-- `targets` sorts the LIDs of `block` by their audiences, as bits
 pub record AreTargets (fabric : FabricOf) (tables : TablesOf) (traffic : Traffic) (block : ℕ) (targets : Targets) : Type 0 where
   pub hosts :
       (bit : ℕ) → bit_at targets.hosts bit ≡ 1
@@ -39,11 +39,11 @@ pub record AreTargets (fabric : FabricOf) (tables : TablesOf) (traffic : Traffic
       (bit : ℕ) → bit < 64 → bit_at targets.hosts bit ≢ 1 → bit_at targets.everyone bit ≢ 1
       → IsAudience fabric tables traffic (64 * block + bit) Nobody
 
--- a word of bits has one more
+-- `new` is the word `old` with bit `bit` set
 abbrev pub HasOneMore : (old new bit : ℕ) → Type 0
 HasOneMore old new bit = (other : ℕ) → ((bit_at new other ≡ 1) ↔ ((bit_at old other ≡ 1) ⊎ (other ≡ bit)))
 
--- the LID of a bit is put among those of its audience
+-- the LID of `bit` was added to those of its audience
 abbrev pub IsPutFor : Audience → (old new : Targets) → ℕ → Type 0
 IsPutFor Nobody old new bit = new ≡ old
 IsPutFor Hosts old new bit = HasOneMore old.hosts new.hosts bit × (new.everyone ≡ old.everyone)

@@ -1,7 +1,8 @@
 -- How many things of a kind there are.
 use Rattle.std.specs.Prelude.{◌≡◌, ◌≢◌, ℕ, List, length, AllPairs, Contains}
 
--- There are so many things of a kind: a list of all of them, and of no other thing, each once, is so long.
+-- `count` is the number of things of a kind: a list of all of them and of no other thing, each once, has this
+-- length.
 pub record IsCountOf {A : Type 0} (Is : A → Type 0) (count : ℕ) : Type 0 where
   pub things : List A
   pub only : (thing : A) → Contains things thing → Is thing

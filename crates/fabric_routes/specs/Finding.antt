@@ -11,7 +11,8 @@ use Rattle.fabric_routes.specs.Found.{IsChannel, number}
 use Rattle.fabric_routes.specs.Routes.{IsStopped, Channel, Takes, DependsOn}
 use Rattle.fabric_routes.specs.Waves.{TakesNumbers}
 
--- Of all LIDs: just the dependencies of the routes were added, and it is told whether a route is stopped.
+-- Of all LIDs, the dependencies of the routes were added and no other, and `told` says whether a route is
+-- stopped.
 pub record AreFound (fabric : FabricOf) (tables : TablesOf) (traffic : Traffic) (old new : GraphOf) (told : Bool) : Type 0 where
   pub leads :
       (one other : ℕ)
@@ -20,7 +21,8 @@ pub record AreFound (fabric : FabricOf) (tables : TablesOf) (traffic : Traffic) 
   pub wide : new.wide ≡ old.wide
   pub bases : new.bases ≡ old.bases
 
--- the same of the LIDs so far
+-- Of the LIDs below `end`, the dependencies of the routes were added and no other, and `told` says whether a
+-- route is stopped.
 pub record AreFoundBelow (fabric : FabricOf) (tables : TablesOf) (traffic : Traffic) (end : ℕ) (old new : GraphOf) (told : Bool) : Type 0 where
   pub leads :
       (one other : ℕ)
@@ -29,7 +31,7 @@ pub record AreFoundBelow (fabric : FabricOf) (tables : TablesOf) (traffic : Traf
   pub wide : new.wide ≡ old.wide
   pub bases : new.bases ≡ old.bases
 
--- The graph has the dependencies of the channels, each and no other.
+-- `graph` has each dependency between channels, and no other.
 pub record AreDependencies (fabric : FabricOf) (tables : TablesOf) (traffic : Traffic) (graph : GraphOf) : Type 0 where
   pub count : length graph.bases ≡ switch_count fabric * fabric.most
   pub exact :
@@ -39,18 +41,19 @@ pub record AreDependencies (fabric : FabricOf) (tables : TablesOf) (traffic : Tr
       (one other : ℕ) → LeadsTo graph one other
       → (channel next : Channel) × IsChannel fabric channel × IsChannel fabric next × (one ≡ number fabric channel) × (other ≡ number fabric next)
 
--- the number of the first channel of the switch to which a port leads, if each switch has so many
+-- the number of the first channel of the switch to which the port leads, if each switch has `channels` of
+-- them
 abbrev pub base_of : ℕ → Side → ℕ
 base_of channels (To next entry) = next * channels
 base_of channels Bare = 0
 base_of channels (End end) = 0
 
--- the first so many bases
+-- `bases` has the first `count` bases
 abbrev pub AreBases : FabricOf → ℕ → List ℕ → Type 0
 AreBases fabric count bases =
     (place : ℕ) → place < count → slice_index bases place ≡ base_of fabric.most (slice_index_or fabric.sides place Bare)
 
--- no route takes a channel and then another one
+-- no route takes `channel` and then, directly, `next`
 abbrev pub HasNoWitness : FabricOf → TablesOf → Traffic → Channel → Channel → Type 0
 HasNoWitness fabric tables traffic channel next =
     (lid : ℕ) (source : EndPort) → Takes fabric tables traffic lid source channel next → ⊥

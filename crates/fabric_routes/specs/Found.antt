@@ -1,4 +1,5 @@
--- Channels of a fabric, and what is told of routes: whether one is stopped, and the least that makes a dependency.
+-- Channels of a fabric, and two facts about routes: whether one is stopped, and the least that makes a
+-- dependency.
 use Rattle.std.specs.Prelude.{◌≡◌, ◌≤◌, ◌+◌, ◌-◌, ◌*◌, ℕ}
 use Rattle.fabric_model.specs.declared.node.EndPort.{EndPort}
 use Rattle.fabric_model.specs.declared.traffic.Traffic.{Traffic}
@@ -8,26 +9,27 @@ use Rattle.fabric_model.specs.Fabric.{FabricOf, side_of, guid_of}
 use Rattle.fabric_tables.specs.Cells.{TablesOf}
 use Rattle.fabric_routes.specs.Routes.{IsStopped, Channel, Takes}
 
--- a channel is a link to a switch
+-- `channel` is a link to a switch
 pub record IsChannel (fabric : FabricOf) (channel : Channel) : Type 0 where
   pub to : ℕ
   pub entry : ℕ
   pub leads : side_of fabric channel.switch channel.port ≡ To to entry
 
--- the number of a channel: the place of its port among those of all switches, as many for each as the one with most has
+-- the number of `channel`: the index of its port among the ports of all switches, `most` of them for each
+-- switch
 abbrev pub number : FabricOf → Channel → ℕ
 number fabric channel = channel.switch * fabric.most + (channel.port - 1)
 
--- some route of the traffic is stopped
+-- at least one route of the traffic is stopped
 abbrev pub SomeIsStopped : FabricOf → TablesOf → Traffic → Type 0
 SomeIsStopped fabric tables traffic = (lid : ℕ) × ((source : EndPort) × IsStopped fabric tables traffic lid source)
 
--- a port of a switch as a channel
+-- the channel out of a port of a switch
 abbrev pub channel_of : Spot → Channel
 channel_of spot = record { switch = spot.switch; port = spot.port }
 
--- The route to the least LID that takes a channel and then another one; of those to it, the one from the end port of
--- least GUID.
+-- The route from `source` to `lid` takes `channel` and then, directly, `next`; no such route leads to a lower
+-- LID, and none to `lid` begins at an end port of lower GUID.
 pub record IsLeastWitness (fabric : FabricOf) (tables : TablesOf) (traffic : Traffic) (channel next : Channel) (lid : ℕ) (source : EndPort) : Type 0 where
   pub takes : Takes fabric tables traffic lid source channel next
   pub least :

@@ -1,4 +1,4 @@
--- What the waves keep. But for `IsGraphOf` only private functions cite this.
+-- What the waves keep. Except for `IsGraphOf`, only private functions cite this.
 use Rattle.std.specs.Prelude.{◌≡◌, ◌<◌, ◌≤◌, ◌+◌, ◌-◌, ◌*◌, ◌^◌, ◌⊎◌, ◌↔◌, ℕ, Bool, true, Some, List, [], ◌∷◌, length, slice_index}
 use Rattle.std.specs.Int.{bit_at}
 use Rattle.common_graph.specs.Graph.{GraphOf, LeadsTo}
@@ -12,7 +12,8 @@ use Rattle.fabric_tables.specs.Cells.{TablesOf}
 use Rattle.fabric_routes.specs.Found.{number}
 use Rattle.fabric_routes.specs.Routes.{hop, IsStop, IsStopped, Sends, ComesTo, Channel, Takes}
 
--- the rows are for the channels of the fabric: the row of each begins with port 1 of the switch to which it leads
+-- the rows of `graph` are those of the channels of `fabric`: the row of each begins with port 1 of the switch
+-- to which it leads
 pub record IsGraphOf (fabric : FabricOf) (graph : GraphOf) : Type 0 where
   pub count : length graph.bases ≡ (switch_count fabric) * fabric.most
   pub wide : fabric.most ≤ 64 * graph.wide
@@ -20,17 +21,17 @@ pub record IsGraphOf (fabric : FabricOf) (graph : GraphOf) : Type 0 where
       (switch port next entry : ℕ) → side_of fabric switch port ≡ To next entry
       → slice_index graph.bases (switch * fabric.most + (port - 1)) ≡ next * fabric.most
 
--- a bit of the word of a switch
+-- the word of `switch` has bit `bit`
 abbrev pub HasBit : List ℕ → ℕ → ℕ → Type 0
 HasBit words switch bit = bit_at (slice_index words switch) bit ≡ 1
 
--- the switches at which routes begin, for each LID of a block
+-- the words say, for each LID of `block`, at which switches routes begin
 abbrev pub AreStarts : FabricOf → TablesOf → Traffic → ℕ → List ℕ → Type 0
 AreStarts fabric tables traffic block words =
     (switch bit : ℕ) → bit < 64
     → (HasBit words switch bit ↔ ((source : EndPort) × Sends fabric tables traffic (64 * block + bit) source × (start_of fabric source ≡ Some switch)))
 
--- by a port of a switch a link leads to another
+-- a link leads from `port` of `switch` to `next`
 pub record IsLink (fabric : FabricOf) (switch port next : ℕ) : Type 0 where
   pub used : 0 < port
   pub low : port ≤ fabric.most
@@ -38,13 +39,13 @@ pub record IsLink (fabric : FabricOf) (switch port next : ℕ) : Type 0 where
   pub entry : ℕ
   pub leads : side_of fabric switch port ≡ To next entry
 
--- a hop that goes on does so by a link
+-- if the hop leads on, it does so over a link
 abbrev pub IsByLink : FabricOf → ℕ → Hop → Type 0
 IsByLink fabric switch (On port next) = IsLink fabric switch port next
 IsByLink fabric switch Arrive = Unit {0}
 IsByLink fabric switch (Stop cause) = Unit {0}
 
--- a hop at a switch makes a dependency
+-- the hop at `at`, for packets to `lid`, makes channel `one` depend on channel `other`
 pub record Makes (fabric : FabricOf) (tables : TablesOf) (lid at one other : ℕ) : Type 0 where
   pub port : ℕ
   pub next : ℕ
@@ -61,8 +62,8 @@ pub record StateOf : Type 0 where
   pub graph : GraphOf
   pub stopped : Bool
 
--- Hops are taken, those of the pairs of switch and bit of a kind: each shows the bit at the next switch, makes a
--- dependency, or stops.
+-- The hops of the pairs of switch and bit in `Kind` were taken: each shows the bit at the next switch, makes
+-- a dependency, or stops.
 pub record Taken (fabric : FabricOf) (tables : TablesOf) (block : ℕ) (Kind : ℕ → ℕ → Type 0) (old new : StateOf) : Type 0 where
   pub seen :
       (switch bit : ℕ)
@@ -75,8 +76,8 @@ pub record Taken (fabric : FabricOf) (tables : TablesOf) (block : ℕ) (Kind : �
   pub wide : new.graph.wide ≡ old.graph.wide
   pub bases : new.graph.bases ≡ old.graph.bases
 
--- How far the waves over a block have come: the hops that are done were taken, all of bits that were seen; and bits are
--- seen only where a route comes.
+-- How far the waves over a block have come: the hops in `done` were taken, each of a bit that was seen; and
+-- bits are seen only where a route comes.
 pub record IsRunning (fabric : FabricOf) (tables : TablesOf) (block : ℕ) (initial now : StateOf) (done : List ℕ) : Type 0 where
   pub taken : Taken fabric tables block (HasBit done) initial now
   pub within : (switch bit : ℕ) → HasBit done switch bit → HasBit now.seen switch bit
@@ -88,12 +89,12 @@ pub record IsRunning (fabric : FabricOf) (tables : TablesOf) (block : ℕ) (init
   pub done_count : length done ≡ switch_count fabric
   pub graph : IsGraphOf fabric now.graph
 
--- how many hops are not done, at most
+-- the highest number of hops that are not done
 abbrev pub gap : List ℕ → ℕ
 gap [] = 0
 gap (word ∷ words) = (2 ^ 64 - word) + gap words
 
--- the hops of the fresh bits of a switch were taken
+-- the hops of the fresh bits of switch `at` were taken
 pub record IsTurned (fabric : FabricOf) (tables : TablesOf) (block at : ℕ) (old new : StateOf) (before after : List ℕ) : Type 0 where
   pub taken : Taken fabric tables block (λ switch bit. (switch ≡ at) × HasBit old.seen at bit × (HasBit before at bit → ⊥)) old new
   pub done : (switch bit : ℕ) → (HasBit after switch bit ↔ (HasBit before switch bit ⊎ ((switch ≡ at) × HasBit old.seen at bit)))
@@ -101,18 +102,19 @@ pub record IsTurned (fabric : FabricOf) (tables : TablesOf) (block at : ℕ) (ol
   pub count : length after ≡ length before
   pub less : gap after < gap before
 
--- there were none
+-- switch `at` had no fresh bits
 pub record IsIdle (at : ℕ) (old new : StateOf) (before after : List ℕ) : Type 0 where
   pub same : new ≡ old
   pub same_done : after ≡ before
   pub none : (bit : ℕ) → HasBit old.seen at bit → HasBit before at bit
 
--- the waves over a block have come further
+-- the waves over `block` have come further
 pub record IsFurther (fabric : FabricOf) (tables : TablesOf) (block : ℕ) (old new : StateOf) (before after : List ℕ) : Type 0 where
   pub running : (initial : StateOf) → IsRunning fabric tables block initial old before → IsRunning fabric tables block initial new after
   pub less : gap after < gap before
 
--- two channels, by their numbers, that the route of an end port takes one after the other
+-- the route from an end port to `lid` takes the channels with numbers `one` and `other`, one directly after
+-- the other
 pub record TakesNumbers (fabric : FabricOf) (tables : TablesOf) (traffic : Traffic) (lid one other : ℕ) : Type 0 where
   pub source : EndPort
   pub channel : Channel
@@ -121,7 +123,8 @@ pub record TakesNumbers (fabric : FabricOf) (tables : TablesOf) (traffic : Traff
   pub is_one : one ≡ number fabric channel
   pub is_other : other ≡ number fabric next
 
--- The waves over a block have run: just the dependencies of its routes were added, and it is told whether one is stopped.
+-- The waves over `block` have run: the dependencies of its routes were added and no other, and `told` says
+-- whether one is stopped, or `had` held already.
 pub record IsWaved (fabric : FabricOf) (tables : TablesOf) (traffic : Traffic) (block : ℕ) (old new : GraphOf) (had told : Bool) : Type 0 where
   pub leads :
       (one other : ℕ)

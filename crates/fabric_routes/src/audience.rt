@@ -16,14 +16,14 @@ use fabric_model::node::EndPort;
 use fabric_model::traffic::Traffic;
 use fabric_tables::cells::Cells;
 
-/// Who sends to a LID. The owner of the LID does not.
+/// Who sends to a LID. The owner of the LID never does.
 #[derive(Clone, Copy)]
 pub enum Audience {
     /// No end port.
     Nobody,
     /// The end ports of adapters and routers that are cabled to switches.
     Hosts,
-    /// Those, and all switches.
+    /// The end ports of `Hosts`, and all switches.
     Everyone,
 }
 
@@ -82,7 +82,8 @@ fn audience_of_row(cells: &Cells, traffic: Traffic, lid: usize) -> Audience
     }
 }
 
-/// Who sends to a LID. Only for one that nobody owns it looks at the tables.
+/// Returns who sends to `lid`. The tables matter only if nobody owns `lid`. The caller must keep `lid` within the
+/// blocks of `cells`.
 #[inline]
 pub fn audience_of(fabric: &Fabric, cells: &Cells, traffic: Traffic, lid: usize) -> Audience
     requires { lid < 64 * cells.now.blocks }
@@ -113,7 +114,8 @@ fn is_heard_from(fabric: &Fabric, audience: Audience, source: EndPort) -> bool
     }
 }
 
-/// Whether an end port sends to a LID, by the audience of the LID: it is of the audience, and does not own the LID.
+/// Reports whether `source` sends to `lid`, whose audience is `audience`: it belongs to the audience, and does not own
+/// `lid`.
 #[inline]
 pub fn is_heard(fabric: &Fabric, audience: Audience, lid: usize, source: EndPort) -> bool
     ensures { IsTrue result ↔ IsHeard fabric.now audience lid source }
@@ -124,7 +126,8 @@ pub fn is_heard(fabric: &Fabric, audience: Audience, lid: usize, source: EndPort
     !is_owner(fabric, lid, source)
 }
 
-/// The switch at which the route of an end port to a LID begins, if it sends to it, by the audience of the LID.
+/// Returns the switch where the route of `source` to `lid`, whose audience is `audience`, begins, or `None` if it does
+/// not send.
 pub fn sender_start(fabric: &Fabric, audience: Audience, lid: usize, source: EndPort) -> Option<u32>
     ensures start { MatchOption result (IsHeard fabric.now audience lid source → ⊥)
         (λ start. IsHeard fabric.now audience lid source × (start_of fabric.now source ≡ Some start)) }
@@ -136,12 +139,12 @@ pub fn sender_start(fabric: &Fabric, audience: Audience, lid: usize, source: End
     begins_at(fabric, source)
 }
 
-/// The LIDs of a block to which end ports send, as bits, by who does.
+/// The LIDs of a block to which end ports send, as bits, by audience.
 #[derive(Clone, Copy)]
 pub struct Targets {
-    /// Those to which end ports of adapters and routers send alone.
+    /// The LIDs to which only end ports of adapters and routers send.
     pub hosts: u64,
-    /// Those to which switches send too.
+    /// The LIDs to which switches also send.
     pub everyone: u64,
 }
 
@@ -165,7 +168,7 @@ impl Targets {
         }
     }
 
-    /// The LIDs to which an end port sends, if it sends at all. Its own may be among them or not.
+    /// Returns the LIDs to which `source` sends, if it sends at all. Its own LIDs can be among them or not.
     #[inline]
     pub fn sent_by(self, source: EndPort) -> u64
         ensures { (fabric : FabricOf) (tables : TablesOf) (traffic : Traffic) (block : ℕ)
@@ -180,7 +183,8 @@ impl Targets {
     }
 }
 
-/// The LIDs of a block to which end ports send, by who does.
+/// Returns the LIDs of `block` to which end ports send, by audience. The caller must pass a block of `cells`, below
+/// 1,024.
 pub fn targets_of(fabric: &Fabric, cells: &Cells, traffic: Traffic, block: usize) -> Targets
     requires block { block < cells.now.blocks }
     requires few { block < 1024 }

@@ -1,4 +1,4 @@
-//! All dependencies, block by block: the routes to the 64 LIDs of a block are followed together.
+//! Finds all dependencies, block by block: the routes to the 64 LIDs of a block are followed together.
 
 ghost use Rattle.std.specs.Prelude.{◌≡◌, ◌<◌, ◌≤◌, ◌*◌, ◌^◌, ◌↔◌, ◌⊎◌, ℕ, length, IfOk, IsTrue, MatchResult};
 ghost use Rattle.fabric_tables.specs.Cells.{tables_of};
@@ -29,9 +29,10 @@ fn clear(words: &mut [u64])
     }
 }
 
-/// Adds to a graph of the channels of a fabric each dependency that a route to a LID of a block makes, and no other.
-/// Answers whether such a route stops at a place that is not its target, or one has before. The words are a room for
-/// bits of each switch.
+/// Adds to `graph` each dependency that a route to a LID of `block` makes, and no other.
+///
+/// Returns whether `stopped` held already, or such a route stops before its target. The caller must pass the links,
+/// senders and graph of this fabric, and in `seen` and `done` one word for each switch as working space.
 pub fn add_block(
     fabric: &Fabric,
     links: &[u64],
@@ -114,8 +115,13 @@ fn add_waves(
     ))
 }
 
-/// Adds to a graph of the channels of a fabric each dependency that a route of the traffic makes, and no other. Answers
-/// whether a route stops at a place that is not its target. The error is out of memory: then nothing is added.
+/// Adds to `graph` each dependency that a route of `traffic` makes, and no other, and returns whether a route stops
+/// before its target.
+///
+/// The caller must pass tables that have all switches and all owned LIDs of the fabric, and a graph of its channels.
+///
+/// # Errors
+/// `OutOfMemory`. The graph is then unchanged.
 pub fn add_dependencies(
     alloc: Global,
     fabric: &Fabric,
@@ -140,11 +146,12 @@ pub fn add_dependencies(
 pub struct Found {
     /// Which channels of the fabric depend on which.
     pub graph: Graph,
-    /// Whether a route stops at a place that is not its target. One that goes on for ever does not stop.
+    /// Whether a route stops before its target. A route that revisits a switch goes on for ever, and does not stop.
     pub stopped: bool,
 }
 
-/// The number of the first channel of the switch to which a port leads, if each switch has so many; 0 if it leads to none.
+/// Returns the number of the first channel of the switch to which `side` leads, if each switch has `channels` of them;
+/// 0 if it leads to no switch.
 pub fn find_base(channels: usize, side: Side) -> u32
     requires channels { channels < 2 ^ 12 }
     requires side { LeadsWithin (2 ^ 20) side }
@@ -171,8 +178,10 @@ fn find_bases(alloc: Global, fabric: &Fabric) -> Result<Vec<u32>, OutOfMemory>
     Ok(bases)
 }
 
-/// A graph of the channels of a fabric, of which none leads to another. A row has a bit for each port, 64 in a
-/// word. The error is out of memory alone.
+/// Creates a graph of the channels of `fabric` without dependencies. A row has a bit for each port, 64 in a word.
+///
+/// # Errors
+/// `OutOfMemory`.
 pub fn no_dependencies(alloc: Global, fabric: &Fabric) -> Result<Graph, OutOfMemory>
     ensures graph { IfOk result (λ graph. IsGraphOf fabric.now graph) }
     ensures none { IfOk result (λ graph. (one other : ℕ) → LeadsTo graph one other → ⊥) }
@@ -183,8 +192,12 @@ pub fn no_dependencies(alloc: Global, fabric: &Fabric) -> Result<Graph, OutOfMem
     Ok(graph)
 }
 
-/// The dependencies of the channels of a fabric by the routes of a traffic: of each two channels whether the one depends
-/// on the other, and whether a route stops at a place that is not its target.
+/// Returns the dependencies that the routes of `traffic` make, and whether a route stops before its target.
+///
+/// The caller must pass tables that have all switches and all owned LIDs of the fabric.
+///
+/// # Errors
+/// `OutOfMemory`.
 pub fn find_dependencies(
     alloc: Global,
     fabric: &Fabric,

@@ -17,34 +17,34 @@ pub enum Cause {
     Missing,
     /// The port is bare: it leads nowhere.
     Dead,
-    /// The port leads to an end port that does not own the LID, and another one does. Port 0 is that of the switch
-    /// itself.
+    /// The port leads to an end port that does not own the LID, though another one does. Port 0 is the switch itself.
     Wrong,
 }
 
-/// What a switch does with what goes to a LID.
+/// What a switch does with packets for a LID.
 #[derive(Clone, Copy)]
 pub enum Hop {
-    /// It sends it out of this port, to the switch of this place.
+    /// It forwards them through this port, to the switch at this index.
     On(u8, u32),
-    /// It hands it to the owner of the LID, which may be its own port 0; if nobody owns the LID, to whichever end port.
+    /// It delivers them to the owner of the LID, which can be its own port 0; if nobody owns the LID, to any end port.
     Arrive,
-    /// It stops it, by this cause.
+    /// It drops them, for this reason.
     Stop(Cause),
 }
 
 /// How a route ends, from a switch on.
 #[derive(Clone, Copy)]
 pub enum Outcome {
-    /// It arrives, and goes through so many switches: the first one and the last one count.
+    /// It arrives, through this number of switches, including the first and the last.
     Arrives(u32),
-    /// It stops, by this cause.
+    /// It stops, for this reason.
     Stops(Cause),
-    /// It goes on for ever.
+    /// It goes on for ever, because it revisits a switch.
     Loops,
 }
 
-/// Whether what goes to a LID arrives at an end port of an adapter or router: it owns the LID, or nobody does.
+/// Reports whether packets for `lid` arrive at `end`, an end port of an adapter or router: it owns `lid`, or nobody
+/// does.
 #[inline]
 pub fn ends_at_host(fabric: &Fabric, lid: usize, end: u32) -> bool
     ensures { result ≡ ends_at_host (owner_of fabric.now lid) end }
@@ -56,7 +56,7 @@ pub fn ends_at_host(fabric: &Fabric, lid: usize, end: u32) -> bool
     }
 }
 
-/// Whether what goes to a LID arrives at a switch: it owns the LID, or nobody does.
+/// Reports whether packets for `lid` arrive at `switch`: it owns `lid`, or nobody does.
 #[inline]
 pub fn ends_at_switch(fabric: &Fabric, lid: usize, switch: usize) -> bool
     ensures { result ≡ ends_at_switch (owner_of fabric.now lid) switch }
@@ -109,7 +109,7 @@ fn hop_by_port(fabric: &Fabric, switch: usize, lid: usize, port: Option<u8>) -> 
     }
 }
 
-/// The hop of a switch for a LID of a block: one of 64, by its bit.
+/// Returns what `switch` does with packets for LID 64 · `block` + `bit`. The caller must keep all three in range.
 #[inline]
 #[tactic(auto, unfolding(crate::specs::Routes::hop))]
 pub fn find_hop(fabric: &Fabric, cells: &Cells, switch: usize, block: usize, bit: usize) -> Hop
@@ -124,7 +124,7 @@ pub fn find_hop(fabric: &Fabric, cells: &Cells, switch: usize, block: usize, bit
     hop_by_port(fabric, switch, 64 * block + bit, port)
 }
 
-/// The hop of a switch for a LID.
+/// Returns what `switch` does with packets for `lid`. The caller must keep both in range.
 #[inline]
 pub fn hop_at(fabric: &Fabric, cells: &Cells, switch: usize, lid: usize) -> Hop
     requires same { switch_count fabric.now ≡ cells.now.switches }

@@ -1,10 +1,12 @@
-//! The routes of forwarding tables, the dependencies that they make, found for 64 LIDs at a time, and for each of these
-//! the least route that makes it.
+//! fabric, judge: the routes of forwarding tables, and the dependencies between channels that these routes make.
 //!
-//! It stands on `an_base`, `common_graph`, `fabric_model` and `fabric_tables`. Its contract: `find` puts into a graph exactly the
-//! dependencies that the routes of a traffic make (`specs/Routes`), and says whether one of them stops; `witness` finds
-//! the least route that takes one channel and then another. Who sends to a LID (`audience`), where routes begin (`start`,
-//! `sender`) and how they end (`trace`) is for who counts them.
+//! Dependencies are found for 64 LIDs at a time (`find`, `wave`), and for each dependency the least route that makes it
+//! (`witness`). Who sends to a LID (`audience`), where routes begin (`start`, `sender`) and how they end (`trace`)
+//! serve the crates that count or repair routes.
+//!
+//! The crate depends on `common_graph`, `fabric_model` and `fabric_tables`. Its contract: `find` puts into a graph the
+//! dependencies that the routes of a traffic make (`specs/Routes`), all of them and no other, and reports whether a
+//! route stops; `witness` finds the least route that takes one channel and then, directly, another one.
 #![tactic(auto)]
 
 pub mod audience;

@@ -1,4 +1,4 @@
-//! Which ports lead to switches, as bits, since a wave asks for it at each hop.
+//! Which ports lead to switches, as bits, because a wave needs to know it at each hop.
 
 ghost use Rattle.std.specs.Prelude.{◌≡◌, ◌<◌, ◌≤◌, ◌+◌, ◌*◌, ◌/◌, ◌%◌, ◌^◌, ◌↔◌, ℕ, length, IfOk, IfSome, IsTrue, MatchOption};
 ghost use Rattle.std.specs.Int.{bit_at};
@@ -42,7 +42,10 @@ fn links_word(fabric: &Fabric, place: usize) -> u64
     word
 }
 
-/// Which ports lead to switches: a bit for each port, four words for each switch, so that a cache can keep them.
+/// Returns which ports lead to switches: a bit for each port, four words for each switch, so that they fit in a cache.
+///
+/// # Errors
+/// `OutOfMemory`.
 pub fn find_links(alloc: Global, fabric: &Fabric) -> Result<Vec<u64>, OutOfMemory>
     ensures { IfOk result (λ links. AreLinks fabric.now links.items) }
 {
@@ -54,7 +57,8 @@ pub fn find_links(alloc: Global, fabric: &Fabric) -> Result<Vec<u64>, OutOfMemor
     Ok(links)
 }
 
-/// Whether a port leads to a switch.
+/// Reports whether `port` of `switch` leads to a switch. The caller must pass the links of this fabric, and one of its
+/// switches.
 #[inline]
 pub fn is_link(fabric: &Fabric, links: &[u64], switch: usize, port: u8) -> bool
     requires links { AreLinks fabric.now links.now }
@@ -65,7 +69,8 @@ pub fn is_link(fabric: &Fabric, links: &[u64], switch: usize, port: u8) -> bool
     has_bit(links[switch * 4 + port / 64], port % 64)
 }
 
-/// The port by which a switch sends on what goes to a LID of a block, if it does so to another switch.
+/// Returns the port through which `switch` forwards packets for LID 64 · `block` + `bit` to another switch, or `None`
+/// if it does not. The caller must pass the links of this fabric, and keep all three numbers in range.
 #[inline]
 pub fn port_on(
     fabric: &Fabric,

@@ -29,7 +29,7 @@ use std::alloc::Global;
 pub enum Senders {
     /// None.
     Quiet,
-    /// This one, and no other.
+    /// This end port, and no other.
     One(EndPort),
     /// Two or more.
     Several,
@@ -99,7 +99,8 @@ fn starts_at(fabric: &Fabric, block: usize, switch: u32, senders: Senders, targe
     hosts | everyone
 }
 
-/// Puts for each switch the LIDs of a block to which some end port sends from there.
+/// Sets in `words`, for each switch, the LIDs of `block` to which at least one end port sends from that switch. The
+/// caller must pass the senders of this fabric, and one word for each switch.
 pub fn put_starts(
     fabric: &Fabric,
     cells: &Cells,
@@ -146,7 +147,10 @@ fn add_sender(fabric: &Fabric, senders: &mut Vec<Senders>, end: usize)
     senders[at] = with_sender(before, end as u32);
 }
 
-/// The end ports of adapters and routers that send from each switch. The switch itself is not counted.
+/// Returns which end ports of adapters and routers send from each switch. The switch itself does not count.
+///
+/// # Errors
+/// `OutOfMemory`.
 pub fn find_senders(alloc: Global, fabric: &Fabric) -> Result<Vec<Senders>, OutOfMemory>
     ensures { IfOk result (λ senders. AreAllSenders fabric.now senders.items) }
 {

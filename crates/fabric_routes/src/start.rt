@@ -10,7 +10,7 @@ use fabric_model::fabric::Fabric;
 use fabric_model::node::EndPort;
 use fabric_model::traffic::Traffic;
 
-/// The switch at which the routes of an end port begin.
+/// Returns the switch where the routes of `source` begin.
 pub fn begins_at(fabric: &Fabric, source: EndPort) -> Option<u32>
     ensures start { result ≡ start_of fabric.now source }
     ensures within { (traffic : Traffic) → IsSource fabric.now traffic source
@@ -25,7 +25,7 @@ pub fn begins_at(fabric: &Fabric, source: EndPort) -> Option<u32>
     }
 }
 
-/// Whether an end port sends.
+/// Reports whether `source` sends.
 pub fn is_source(fabric: &Fabric, traffic: Traffic, source: EndPort) -> bool
     ensures { IsTrue result ↔ IsSource fabric.now traffic source }
 {
@@ -41,7 +41,7 @@ pub fn is_source(fabric: &Fabric, traffic: Traffic, source: EndPort) -> bool
     }
 }
 
-/// Whether an end port owns a LID.
+/// Reports whether `who` owns `lid`.
 #[inline]
 pub fn is_owner(fabric: &Fabric, lid: usize, who: EndPort) -> bool
     ensures { IsTrue result ↔ (owner_of fabric.now lid ≡ Some who) }
@@ -59,7 +59,7 @@ pub fn is_owner(fabric: &Fabric, lid: usize, who: EndPort) -> bool
     }
 }
 
-/// Whether an end port of an adapter or router is cabled to a switch.
+/// Reports whether `end`, an end port of an adapter or router, is cabled to a switch.
 #[inline]
 pub fn is_cabled(fabric: &Fabric, end: u32) -> bool
     ensures { IsTrue result ↔ IsCabled fabric.now end }
@@ -70,7 +70,7 @@ pub fn is_cabled(fabric: &Fabric, end: u32) -> bool
     }
 }
 
-/// Whether some end port owns a LID to which others send.
+/// Reports whether an end port to which others send owns `lid`.
 #[inline]
 pub fn is_target(fabric: &Fabric, traffic: Traffic, lid: usize) -> bool
     ensures { IsTrue result ↔ ((owner : EndPort) × (owner_of fabric.now lid ≡ Some owner) × IsTarget fabric.now traffic owner) }

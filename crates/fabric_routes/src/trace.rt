@@ -1,4 +1,4 @@
-//! Follows the routes to a LID, past each switch once.
+//! Follows the routes to a LID, passing each switch once.
 
 ghost use Rattle.std.specs.Prelude.{◌≡◌, ◌<◌, ◌≤◌, ◌^◌, ℕ, length, count_by, take};
 ghost use Rattle.fabric_model.specs.Fabric.{switch_count};
@@ -18,10 +18,10 @@ use fabric_tables::cells::Cells;
 pub struct Target {
     /// The block of the LID: the LID divided by 64, rounded down.
     pub block: usize,
-    /// Its bit in the block, from 0 to 63.
+    /// The bit of the LID in the block, from 0 to 63.
     pub bit: usize,
-    /// If there is one: the switch at which each route that comes there is taken as arrived. One that would
-    /// arrive at another switch then stops there, as `Wrong`.
+    /// If set, each route that comes to this switch counts as arrived there, and a route that would arrive at another
+    /// switch stops there, as `Wrong`.
     pub until: Option<u32>,
 }
 
@@ -30,7 +30,7 @@ pub struct Target {
 pub enum Mark {
     /// Nothing.
     New,
-    /// The route that is followed came by it.
+    /// The route that is being followed came through it.
     Open,
     /// How the routes from it end.
     Known(Outcome),
@@ -174,8 +174,10 @@ fn settle(marks: &mut [Mark], path: &[u32], followed: Followed) -> Outcome
     outcome
 }
 
-/// How the route from a switch ends. The marks are of the same target, and the path is a room for the switches of a
-/// route.
+/// Returns how the route from `start` to `target` ends, and records in `marks` what it learns.
+///
+/// The caller must pass marks of the same target, in `path` a place for each switch as working space, and numbers in
+/// range.
 pub fn trace(
     fabric: &Fabric,
     cells: &Cells,

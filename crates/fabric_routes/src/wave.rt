@@ -1,4 +1,4 @@
-//! One wave: routes to the LIDs of a block go on together from switch to switch, until no hop is new.
+//! One wave: the routes to the LIDs of a block advance together from switch to switch, until no hop is new.
 
 ghost use Rattle.std.specs.Prelude.{◌≡◌, ◌<◌, ◌⊎◌, ◌↔◌, ℕ, length, MatchOption};
 ghost use Rattle.std.specs.Int.{bit_at};
@@ -186,8 +186,11 @@ fn follow(
     Some(stops)
 }
 
-/// Rounds over the switches until nothing is fresh. The bits that are seen are those at which routes begin. Of each round
-/// the greatest bit that is fresh anywhere comes to the ends of its routes, since `follow` goes on by the last hop.
+/// Goes over the switches in rounds until no bit is fresh, adds the dependencies to `graph`, and returns whether
+/// `stopped` held already or a route stops.
+///
+/// The caller must set in `seen` the bits where routes begin, and none in `done`. In each round the highest fresh bit
+/// comes to the ends of its routes, because `follow` continues at the last hop.
 pub fn run(
     fabric: &Fabric,
     links: &[u64],

@@ -1,4 +1,4 @@
-//! By which route a channel depends on another.
+//! Finds the route by which a channel depends on another.
 
 ghost use Rattle.std.specs.Prelude.{◌≡◌, ◌<◌, ◌≤◌, ◌*◌, ◌^◌, ◌↔◌, ℕ, length, IfOk, IsTrue, MatchOption};
 ghost use Rattle.fabric_model.specs.declared.node.EndPort.{EndPort};
@@ -64,8 +64,10 @@ fn goes_by(fabric: &Fabric, cells: &Cells, lid: usize, channel: Spot, next: Spot
     }
 }
 
-/// Whether an end port sends to a LID, by the audience of the LID, and its route comes to a switch. The marks are those of
-/// routes to the LID that are followed until they come there, and the path is a room for the switches of a route.
+/// Reports whether `source` sends to `lid`, whose audience is `audience`, and its route comes to `via`.
+///
+/// The caller must pass marks of routes to `lid` that are followed until `via`, in `path` a place for each switch as
+/// working space, and a `lid` in range.
 pub fn comes(
     fabric: &Fabric,
     cells: &Cells,
@@ -170,7 +172,8 @@ fn lesser_of(fabric: &Fabric, end: u32, place: u32) -> Option<EndPort>
     }
 }
 
-/// Of an end port of an adapter or router and a switch the one of lesser GUID; each of them may not be there.
+/// Returns whichever of an end port of an adapter or router, `host`, and a switch has the lower GUID. Either can be
+/// missing.
 pub fn lesser(fabric: &Fabric, host: Option<u32>, switch: Option<u32>) -> Option<EndPort>
     ensures { IsLesser fabric.now host switch result }
 {
@@ -262,8 +265,14 @@ fn witness_at(
     Ok(found)
 }
 
-/// The least LID, and to it the end port of least GUID, whose route takes a channel and then, directly, another one.
-/// There is none if the channel does not depend on the other.
+/// Returns the least route that takes `channel` and then, directly, `next`: to the lowest LID, and of the routes to it
+/// the one from the end port of lowest GUID. Returns `None` if `channel` does not depend on `next`.
+///
+/// The caller must pass tables that have all switches and all owned LIDs of the fabric, and channels out of its
+/// switches.
+///
+/// # Errors
+/// `OutOfMemory`.
 pub fn find_witness(
     alloc: Global,
     fabric: &Fabric,

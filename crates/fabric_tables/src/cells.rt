@@ -11,7 +11,8 @@ use std::marker::Model;
 // What a byte says that is no port.
 const NO_PORT: u8 = 255;
 
-/// The tables: a byte for each switch and LID. It lies by blocks of 64 LIDs, in a block switch by switch.
+/// Forwarding tables, with a byte for each switch and LID. The bytes are grouped in blocks of 64 LIDs, and in each
+/// block switch by switch.
 #[derive(Drop)]
 pub struct Cells {
     switches: usize,
@@ -30,7 +31,11 @@ impl Model for Cells {
 }
 
 impl Cells {
-    /// Tables of so many switches for the LIDs below a number, none of which has a port yet. All memory is taken here.
+    /// Creates tables of `switches` switches (below 1,048,576) for the LIDs below `lids` (at most 65,536), without any
+    /// port. No later call except `widen` allocates.
+    ///
+    /// # Errors
+    /// `OutOfMemory`.
     pub fn new(alloc: Global, switches: usize, lids: usize) -> Result<Cells, OutOfMemory>
         requires switches { switches < 2 ^ 20 }
         requires lids { lids ≤ 2 ^ 16 }
@@ -47,8 +52,10 @@ impl Cells {
         })
     }
 
-    /// Makes room for all LIDs below a number. Each port stays, and no LID has a new one. The error is out of memory:
-    /// then nothing is changed.
+    /// Extends the tables to all LIDs below `lids`, at most 65,536. Every port stays, and no LID gains one.
+    ///
+    /// # Errors
+    /// `OutOfMemory`. The tables are then unchanged.
     pub fn widen(&mut self, lids: usize) -> Result<(), OutOfMemory>
         requires { lids ≤ 2 ^ 16 }
         ensures switches { self.new.switches ≡ self.old.switches }
@@ -62,7 +69,7 @@ impl Cells {
         Ok(())
     }
 
-    /// How many switches there are.
+    /// Returns the number of switches.
     pub fn switches(&self) -> usize
         ensures count { result ≡ self.now.switches }
         ensures most { result < 2 ^ 20 }
@@ -70,7 +77,7 @@ impl Cells {
         self.switches
     }
 
-    /// How many blocks of 64 LIDs there are. No switch has a port for a LID beyond them.
+    /// Returns the number of blocks of 64 LIDs, at most 1,024. No switch has a port for a LID beyond them.
     pub fn blocks(&self) -> usize
         ensures count { result ≡ self.now.blocks }
         ensures most { result ≤ 1024 }
@@ -79,7 +86,8 @@ impl Cells {
         self.blocks
     }
 
-    /// The port of a switch for a LID of a block.
+    /// Returns the port of `switch` for LID 64 · `block` + `bit`. The caller must keep all three in range, `bit` below
+    /// 64.
     pub fn port(&self, switch: usize, block: usize, bit: usize) -> Option<u8>
         requires switch { switch < self.now.switches }
         requires block { block < self.now.blocks }
@@ -94,7 +102,8 @@ impl Cells {
         Some(port)
     }
 
-    /// Whether some switch has a port for a LID of a block.
+    /// Reports whether at least one switch has a port for LID 64 · `block` + `bit`. The caller must keep both in range,
+    /// `bit` below 64.
     pub fn has_row(&self, block: usize, bit: usize) -> bool
         requires block { block < self.now.blocks }
         requires bit { bit < 64 }
@@ -129,8 +138,9 @@ impl Cells {
         self.bytes[(lid / 64 * self.switches + switch) * 64 + lid % 64] = port;
     }
 
-    /// Puts the port of a switch for a LID. Answers whether the table has this port now: it does not if
-    /// another one was put before, which stays.
+    /// Sets the port of `switch` for `lid`. The caller must keep both in range, and `port` below 255.
+    ///
+    /// Returns `false`, and changes nothing, if a different port is set already.
     pub fn put(&mut self, switch: usize, lid: usize, port: u8) -> bool
         requires switch { switch < self.old.switches }
         requires lid { lid < 64 * self.old.blocks }

@@ -1,7 +1,8 @@
-//! The forwarding tables: one byte for each switch and LID.
+//! fabric, model: forwarding tables in memory, with one byte for each switch and LID.
 //!
-//! It stands on `an_base`. Its contract: `cells` keeps the port that was told for a switch and a LID, and refuses a
-//! second one that differs; contracts see the tables as the port, or none, of each switch and LID.
+//! The crate depends on no other crate of `fabric`. Its contract: `cells` keeps the port given for a switch and LID,
+//! and rejects a second port that differs. Contracts see the tables as a function from switch and LID to a port, or to
+//! none (`TablesOf`).
 #![tactic(auto)]
 
 pub mod cells;

@@ -12,29 +12,29 @@ use Rattle.fabric_topology.specs.Fronts.{begins, number_then, front_number}
 use Rattle.fabric_topology.specs.Facts.{guid_of, silent, telling, telling_two, telling_three}
 
 -- The lines that `ibnetdiscover` prints. Descriptions of nodes are any bytes, so an id is the first word in
--- quotes, and the LID of a node with a description before it is what stands after the last ` lid `.
+-- quotes, and the LID of a node that follows a description is what follows the last ` lid `.
 
--- the first word in quotes, and what stands after it
+-- the first word in quotes, and what follows it
 unfoldable pub quoted : List ℕ → Option (List ℕ × List ℕ)
 quoted text = do
   parts ← cut 34 text
   cut 34 parts.1
 
--- the number in the brackets at the front of a text
+-- the number in brackets at the start of `text`
 unfoldable pub in_brackets : List ℕ → Option ℕ
 in_brackets text = do
   rest ← after (codes "[") text
   parts ← cut 93 rest
   decimal parts.0
 
--- the GUID in the first parentheses of a text
+-- the GUID in the first parentheses of `text`
 unfoldable pub in_parentheses : List ℕ → Option ℕ
 in_parentheses text = do
   parts ← cut 40 text
   word ← cut 41 parts.1
   hex word.0
 
--- the GUID of a switch in its id, and that of an adapter or router
+-- `switch_id`: the GUID in the id of a switch; `adapter_id`: the GUID in the id of an adapter or router
 unfoldable pub switch_id : List ℕ → Option ℕ
 switch_id id = after (codes "S-") id >>= guid
 
@@ -47,7 +47,7 @@ far_port id rest =
     option_map_or (λ guid. in_brackets rest >>= λ port. Some (OfSwitch guid port)) (switch_id id)
     (adapter_id id >>= λ node. in_parentheses rest >>= λ guid. Some (OfHost guid))
 
--- the same in a line, and what stands after the id
+-- the port at the far end of a link, as in `far_port`, in `line`, and what follows its id
 unfoldable pub far_end : List ℕ → Option (PortTold × List ℕ)
 far_end line = do
   id ← quoted line
@@ -95,20 +95,21 @@ switch_port guid line = do
   Some (telling_two (part.Switch guid) (fact.Link (OfSwitch guid port) far.0)
       (fact.Neighbour (guid_of far.0) base))
 
--- the GUID of the port of an adapter, which stands before the id of the far end
+-- the GUID of the port of an adapter, which precedes the id of the far end
 unfoldable pub own_guid : List ℕ → Option ℕ
 own_guid line = do
   port ← in_brackets line
   own ← cut 34 line
   in_parentheses own.0
 
--- its LIDs
+-- the LIDs of the port of an adapter
 unfoldable pub port_lids : List ℕ → Option (ℕ × ℕ)
 port_lids text = do
   numbers ← cut_first (codes "# lid ") text
   own_lids numbers.1
 
--- `[1](8f10400000011) \t"S-0002c90000000001"[1]\t\t# lid 1 lmc 0 "leaf1" lid 6 4xSDR`, in that of an adapter
+-- `[1](8f10400000011) \t"S-0002c90000000001"[1]\t\t# lid 1 lmc 0 "leaf1" lid 6 4xSDR`, in the section of an
+-- adapter or router
 unfoldable pub adapter_port : List ℕ → Option Line
 adapter_port line = do
   guid ← own_guid line
@@ -125,7 +126,7 @@ head_line line =
     (option_map_or adapter_head (after (codes "Ca\t") line)
     (after (codes "Rt\t") line >>= adapter_head))
 
--- the line of a port, which stands in the section of a node
+-- the line of a port, in the section of a node
 unfoldable pub port_line : Part → List ℕ → Option Line
 port_line (part.Switch guid) line = switch_port guid line
 port_line part.Adapter line = adapter_port line
@@ -136,7 +137,8 @@ port_line (part.Dumped lmc) line = None
 port_line part.Plain line = None
 port_line part.Ended line = None
 
--- whether a line names a chassis, or is one of the ids before the head of a node
+-- `is_of_chassis`: whether `line` names a chassis; `is_of_ids`: whether it is one of the ids before the head
+-- of a node
 abbrev pub is_of_chassis : List ℕ → Bool
 is_of_chassis line = begins (codes "Chassis ") line || begins (codes "Non-Chassis Nodes") line
 
@@ -146,11 +148,11 @@ is_of_ids line =
     || (begins (codes "sysimgguid=") line || begins (codes "switchguid=") line))
     || (begins (codes "caguid=") line || begins (codes "rtguid=") line)
 
--- whether a line is passed over: these, or a comment
+-- whether `line` is ignored: a chassis, an id, or a comment
 unfoldable pub is_passed_over : List ℕ → Bool
 is_passed_over line = begins (codes "#") line || (is_of_chassis line || is_of_ids line)
 
--- what a line says: an empty one ends a section
+-- the meaning of `line` at part `here`: an empty line ends a section
 unfoldable pub discovered : Part → List ℕ → Option Line
 discovered here line =
     if length line == 0 then Some (silent part.Outside)

@@ -10,18 +10,18 @@ use Rattle.fabric_topology.specs.declared.fact.Part.TheVariants as part
 use Rattle.fabric_topology.specs.Facts.{silent, telling_three}
 use Rattle.fabric_topology.specs.Fronts.{begins}
 
--- The lines of `opensm-subnet.lst`, one for each end of each link:
--- `{ SW Ports:24 SystemGUID:.. NodeGUID:.. PortGUID:.. .. {leaf1} LID:0006 PN:01 } { CA .. } PHY=4x ..`.
--- Descriptions are any bytes, so what stands after one is found from the right.
+-- The lines of `opensm-subnet.lst`, one for each end of each link: `{ SW Ports:24 SystemGUID:.. NodeGUID:..
+-- PortGUID:.. .. {leaf1} LID:0006 PN:01 } { CA .. } PHY=4x ..`. Descriptions are any bytes, so what follows
+-- one is found from the right.
 
--- the number in hexadecimal digits at the front of a text, up to a space, and what stands after that
+-- the number in hexadecimal digits before the first space, and what follows that space
 unfoldable pub hex_then : List ℕ → Option (ℕ × List ℕ)
 hex_then text = do
   parts ← cut 32 text
   number ← hex parts.0
   Some (number, parts.1)
 
--- the same of a GUID in sixteen digits
+-- the GUID in sixteen digits before the first space, and what follows that space
 unfoldable pub guid_then : List ℕ → Option (ℕ × List ℕ)
 guid_then text = do
   parts ← cut 32 text
@@ -45,8 +45,8 @@ at text = do
   port ← hex word
   Some (base.0, port)
 
--- What a node of a kind is, and the port of it. The lines do not tell an LMC: port 0 of a switch has 0, and all end
--- ports of adapters and routers have the same.
+-- The node and port of a side, by its kind. The lines do not contain an LMC: port 0 of a switch has 0, and
+-- all end ports of adapters and routers have `lmc`.
 unfoldable pub told_by : (lmc : ℕ) (kind : List ℕ) (ports : ℕ) (guids at : ℕ × ℕ) → Option (Fact × PortTold)
 told_by lmc kind ports guids at =
     if begins (codes "SW") kind
@@ -54,7 +54,8 @@ told_by lmc kind ports guids at =
     else if begins (codes "CA") kind || begins (codes "Rt") kind
     then Some (fact.Host guids.1 at.0 lmc, OfHost guids.1) else None
 
--- what one side of a line tells: of `SW Ports:24`, of what stands after ` SystemGUID:`, and of `0006 PN:01`
+-- the node and port of one side of a line: from `SW Ports:24`, from what follows ` SystemGUID:`, and from
+-- `0006 PN:01`
 unfoldable pub side : (lmc : ℕ) (head rest numbers : List ℕ) → Option (Fact × PortTold)
 side lmc head rest numbers = do
   kind ← cut 32 head
@@ -64,14 +65,15 @@ side lmc head rest numbers = do
   place ← at numbers
   told_by lmc kind.0 ports both place
 
--- the parts of the first side: its head, what stands after ` SystemGUID:`, and what after the description
+-- the parts of the first side: its head, what follows ` SystemGUID:`, and what follows the description
 unfoldable pub near_parts : List ℕ → Option (List ℕ × List ℕ × List ℕ)
 near_parts text = do
   numbers ← cut_last (codes "} LID:") text
   both ← cut_first (codes " SystemGUID:") numbers.0
   Some (both.0, both.1, numbers.1)
 
--- those of the second side, which is found from the right: its head with all before it, and the same two
+-- the parts of the second side, found from the right: its head with all that precedes it, what follows `
+-- SystemGUID:`, and what follows the description
 unfoldable pub far_parts : List ℕ → Option (List ℕ × List ℕ × List ℕ)
 far_parts line = do
   both ← cut_last (codes " } PHY=") line
@@ -79,14 +81,14 @@ far_parts line = do
   heads ← cut_last (codes " SystemGUID:") numbers.0
   Some (heads.0, heads.1, numbers.1)
 
--- what the first side of a line tells
+-- the node and port of the first side of a line
 unfoldable pub near_side : (lmc : ℕ) → List ℕ → Option (Fact × PortTold)
 near_side lmc text = do
   parts ← near_parts text
   head ← after (codes "{ ") parts.0
   side lmc head parts.1 parts.2
 
--- what a line says: the first side is found in what stands before the second
+-- the meaning of `line`: the first side is found in what precedes the second
 unfoldable pub dumped : (lmc : ℕ) → List ℕ → Option Line
 dumped lmc line = do
   parts ← far_parts line

@@ -5,14 +5,14 @@ use Rattle.fabric_topology.specs.declared.fact.PortTold.TheVariants.{OfSwitch, O
 use Rattle.fabric_topology.specs.declared.fact.Line.{Line}
 use Rattle.fabric_topology.specs.declared.fact.Part.{Part}
 
--- What lines tell of a fabric.
+-- What lines say of a fabric.
 
 -- the GUID of the switch or end port to which a port belongs
 abbrev pub guid_of : PortTold → ℕ
 guid_of (OfSwitch guid port) = guid
 guid_of (OfHost guid) = guid
 
--- what a line says that tells nothing, one fact, two, three
+-- the meaning of a line without facts, and below, of a line with one, two and three
 abbrev pub silent : Part → Line
 silent part = record { part = part; first = None; second = None; third = None }
 

@@ -1,5 +1,5 @@
--- What the text of a topology calls its nodes: a switch by its GUID, an end port of an adapter or router by
--- that of the port. A name is any bytes, as they stand. If several lines name a node, the first counts.
+-- The names that a topology gives to its nodes: a switch by its GUID, an end port of an adapter or router by
+-- the GUID of the port. A name is any bytes, unchanged. If several lines name a node, the first counts.
 use Rattle.std.specs.Prelude.{◌≡◌, ◌++◌, ◌∷◌, [], ℕ, List, Option, Some, None, codes, nat_eq}
 use Rattle.std.specs.Prelude.{option_to_list, Contains}
 use Rattle.std.specs.Map.{lookup}
@@ -24,8 +24,8 @@ head_name text = do
   name ← cut_last (codes "\"") comment.1
   Some name.0
 
--- the description of the adapter or router in whose section a line stands: that in the line, if it is a head,
--- and else the one before
+-- the description of the adapter or router in whose section `line` is: from `line`, if it is a head, else
+-- `before`
 unfoldable pub section_name : Option (List ℕ) → List ℕ → Option (List ℕ)
 section_name before line =
     option_map_or head_name (after (codes "Ca\t") line)
@@ -42,11 +42,11 @@ near_braced heads = do
   parts ← near_parts sides.0
   braced parts.1
 
--- what stands after the first space
+-- what follows the first space
 unfoldable pub past : List ℕ → Option (List ℕ)
 past text = option_map (λ parts. parts.1) (cut 32 text)
 
--- what stands after four
+-- what follows the fourth space
 abbrev pub past_four : List ℕ → Option (List ℕ)
 past_four text = past text >>= past >>= past >>= past
 
@@ -56,7 +56,8 @@ unfoldable pub plain_name : List ℕ → Option (List ℕ)
 plain_name line =
     option_map_or past_four (after (codes "switch ") line) (after (codes "host ") line >>= past_four >>= past)
 
--- the name in a line of the node of its first fact, and of that of its second, by where the line stands
+-- `near_name`: the name, in `line` at this part, of the node of its first fact; `far_name`: of its second
+-- fact
 unfoldable pub near_name : Part → Option (List ℕ) → List ℕ → Option (List ℕ)
 near_name (part.Switch guid) section line = after (codes "Switch\t") line >>= head_name
 near_name part.Adapter section line = section
@@ -77,7 +78,7 @@ far_name (part.Lmc lmc) line = None
 far_name part.Outside line = None
 far_name part.Ended line = None
 
--- the node that a fact tells of
+-- the node of a fact
 abbrev pub node_told : Option Fact → Option ℕ
 node_told None = None
 node_told (Some (fact.Switch guid ports base lmc)) = Some guid
@@ -86,16 +87,16 @@ node_told (Some (fact.Link one other)) = None
 node_told (Some (fact.Neighbour guid base)) = None
 node_told (Some (fact.HasSwitch guid)) = None
 
--- a node with its name, if there are both
+-- a node with its name, if both are present
 abbrev pub named : Option ℕ → Option (List ℕ) → List (ℕ × List ℕ)
 named guid name = option_to_list (option_zip guid name)
 
--- the nodes that a line names, in the section of an adapter or router with this description
+-- the nodes that `line` names, in the section of an adapter or router with the description `section`
 abbrev pub names_in : Option (List ℕ) → List ℕ → Line → List (ℕ × List ℕ)
 names_in section line said = named (node_told said.first) (near_name said.part section line)
     ++ named (node_told said.second) (far_name said.part line)
 
--- the nodes that lines name, up to one that says nothing that is known
+-- the nodes that the lines name, up to the first line without a meaning
 abbrev pub names_told : Part → Option (List ℕ) → List (List ℕ) → List (ℕ × List ℕ)
 names_told here section [] = []
 names_told here section (line ∷ lines) = option_map_or
@@ -103,15 +104,15 @@ names_told here section (line ∷ lines) = option_map_or
     ++ names_told said.part (section_name section line) lines)
     (says here line) []
 
--- what a text calls a node, if it names it
+-- the name that the text gives to the node with `guid`, if any
 abbrev pub name_of : List ℕ → ℕ → Option (List ℕ)
 name_of bytes guid = lookup (nat_eq guid) (names_told part.Start None (lines_of bytes))
 
--- these have, of each node that is asked for, its name, if it has one; and nothing else
+-- `names` has the name of each node in `guids` that has one, and nothing else
 pub record AreNamesBy (name : ℕ → Option (List ℕ)) (guids : List ℕ) (names : List (ℕ × List ℕ)) : Type 0 where
   pub asked : (guid : ℕ) → Contains guids guid → lookup (nat_eq guid) names ≡ name guid
   pub others : (guid : ℕ) → ¬ Contains guids guid → lookup (nat_eq guid) names ≡ None
 
--- so by this text
+-- `AreNamesBy` with the names that the text `bytes` gives
 abbrev pub AreNamesOf : List ℕ → List ℕ → List (ℕ × List ℕ) → Type 0
 AreNamesOf bytes = AreNamesBy (name_of bytes)

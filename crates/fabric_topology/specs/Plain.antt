@@ -10,10 +10,10 @@ use Rattle.fabric_topology.specs.declared.fact.Part.TheVariants as part
 use Rattle.fabric_topology.specs.Facts.{silent, telling, telling_three}
 use Rattle.fabric_topology.specs.Fronts.{begins, number_then, front_number}
 
--- The lines of the plain format. After the last number of a line a space and a name may follow. A SWITCH is
--- the id of a switch that the text has.
+-- The lines of the plain format. After the last number of a line, a space and a name can follow. A SWITCH is
+-- the id of a switch of the text.
 
--- the id at the front of a text, `0x` and hexadecimal digits up to a space, and what stands after that
+-- the id, `0x` and hexadecimal digits, before the first space, and what follows that space
 unfoldable pub id_then : List ℕ → Option (ℕ × List ℕ)
 id_then text = do
   parts ← cut 32 text
@@ -51,23 +51,23 @@ plain_link text = do
   Some (telling_three part.Plain (fact.HasSwitch one.0) (fact.HasSwitch other.0)
       (fact.Link (OfSwitch one.0 port.0) (OfSwitch other.0 far_port)))
 
--- what a line tells by its first word
+-- the meaning of a line, by its first word
 unfoldable pub item : List ℕ → Option Line
 item line =
     option_map_or plain_switch (after (codes "switch ") line)
     (option_map_or plain_host (after (codes "host ") line)
     (after (codes "link ") line >>= plain_link))
 
--- whether a line is empty or a comment
+-- whether `line` is empty or a comment
 abbrev pub is_silent : List ℕ → Bool
 is_silent line = (length line == 0) || begins (codes "#") line
 
--- what a line says between the first and the last, which is `end`
+-- the meaning of a line between the first and the last, which is `end`
 unfoldable pub plain : List ℕ → Option Line
 plain line =
     if is_silent line then Some (silent part.Plain)
     else if bytes_eq line (codes "end") then Some (silent part.Ended) else item line
 
--- what a line says after the last
+-- the meaning of a line after the last
 unfoldable pub ended : List ℕ → Option Line
 ended line = if is_silent line then Some (silent part.Ended) else None

@@ -10,14 +10,14 @@ use Rattle.fabric_topology.specs.Discovered.{discovered}
 use Rattle.fabric_topology.specs.Dumped.{dumped, lmc_line}
 use Rattle.fabric_topology.specs.Plain.{is_silent, plain, ended}
 
--- The text of a topology: each line says something where it stands.
+-- The text of a topology: each line has a meaning at its part of the text.
 
--- what a line says of an `opensm-subnet.lst` of this LMC, once that is known
+-- the meaning of `line` in an `opensm-subnet.lst` with this LMC
 abbrev pub dumped_or_silent : Part → (lmc : ℕ) → List ℕ → Option Line
 dumped_or_silent here lmc line = if is_silent line then Some (silent here) else dumped lmc line
 
--- The first line that is not silent tells what the text is: `{` begins an `opensm-subnet.lst`, and so does
--- `lmc N` before it. `topology 1` begins a plain text, and any other line is of `ibnetdiscover`.
+-- The first line that is not silent says what the text is: `{` begins an `opensm-subnet.lst`, and so does
+-- `lmc N` before it. `topology 1` begins a plain text, and every other line belongs to `ibnetdiscover`.
 unfoldable pub first : List ℕ → Option Line
 first line =
     if is_silent line then Some (silent part.Start)
@@ -26,7 +26,7 @@ first line =
     else if bytes_eq line (codes "topology 1") then Some (silent part.Plain)
     else discovered part.Outside line
 
--- what a line says, by where it stands
+-- the meaning of a line, by the part of the text
 unfoldable pub says : Part → List ℕ → Option Line
 says part.Start line = first line
 says part.Outside line = discovered part.Outside line
@@ -37,7 +37,7 @@ says (part.Dumped lmc) line = dumped_or_silent (part.Dumped lmc) lmc line
 says part.Plain line = plain line
 says part.Ended line = ended line
 
--- a text may end if a line told what it is, and a plain one after its `end`
+-- a text can end here: a line has said what it is, and a plain text has had its `end`
 abbrev pub may_end : Part → Bool
 may_end part.Start = false
 may_end part.Outside = true

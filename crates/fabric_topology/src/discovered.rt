@@ -13,7 +13,7 @@ use crate::front::{begins, front_number, number_then};
 use fabric_words::cut::{after, cut, cut_first, cut_last};
 use fabric_words::digits::{decimal, guid, hex};
 
-/// The first word in quotes, and what stands after it.
+/// Returns the first word in quotes, and what follows it.
 #[tactic(auto, unfolding(crate::specs::Discovered::quoted))]
 pub fn quoted(text: &[u8]) -> Option<(&[u8], &[u8])>
     ensures { MatchOption result (quoted text.now ≡ None)
@@ -267,7 +267,7 @@ fn is_passed_over(line: &[u8]) -> bool
     is_of_ids(line)
 }
 
-/// What a line says that `ibnetdiscover` printed.
+/// Parses a line of the output of `ibnetdiscover`, at part `part`.
 #[tactic(auto, unfolding(crate::specs::Discovered::discovered))]
 pub fn discovered(part: Part, line: &[u8]) -> Option<Line>
     ensures { result ≡ discovered part line.now }

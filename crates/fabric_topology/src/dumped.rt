@@ -101,7 +101,7 @@ fn side(lmc: u64, head: &[u8], rest: &[u8], numbers: &[u8]) -> Option<(Fact, Por
     told_by(lmc, kind, ports, guids, at)
 }
 
-/// The parts of the first side: its head, what stands after ` SystemGUID:`, and what after the description.
+/// Cuts the first side of a line into its head, what follows ` SystemGUID:`, and what follows the description.
 #[tactic(auto, unfolding(crate::specs::Dumped::near_parts))]
 pub fn near_parts(text: &[u8]) -> Option<(&[u8], &[u8], &[u8])>
     ensures { MatchOption result (near_parts text.now ≡ None)
@@ -112,7 +112,8 @@ pub fn near_parts(text: &[u8]) -> Option<(&[u8], &[u8], &[u8])>
     Some((head, guids, numbers))
 }
 
-/// Those of the second side: its head with all that stands before it, and the same two.
+/// Cuts the second side of a line into its head with all that precedes it, what follows ` SystemGUID:`, and what
+/// follows the description.
 #[tactic(auto, unfolding(crate::specs::Dumped::far_parts))]
 pub fn far_parts(line: &[u8]) -> Option<(&[u8], &[u8], &[u8])>
     ensures { MatchOption result (far_parts line.now ≡ None)
@@ -134,7 +135,7 @@ fn near_side(lmc: u64, text: &[u8]) -> Option<(Fact, PortTold)>
     side(lmc, head, guids, numbers)
 }
 
-/// What a line says of an `opensm-subnet.lst` whose end ports of adapters and routers have this LMC.
+/// Parses a line of an `opensm-subnet.lst` whose end ports of adapters and routers have the LMC `lmc`.
 #[tactic(auto, unfolding(crate::specs::Dumped::dumped))]
 pub fn dumped(lmc: u64, line: &[u8]) -> Option<Line>
     ensures { result ≡ dumped lmc line.now }
@@ -150,7 +151,7 @@ pub fn dumped(lmc: u64, line: &[u8]) -> Option<Line>
     Some(Line::of_three(Part::Dumped { lmc }, one.0, other.0, link))
 }
 
-/// The LMC of all end ports of adapters and routers, in a line of its own: `lmc` and a number from 0 to 7.
+/// Parses the line that gives the LMC of all end ports of adapters and routers: `lmc` and a number from 0 to 7.
 #[tactic(auto, unfolding(crate::specs::Dumped::lmc_line))]
 pub fn lmc_line(line: &[u8]) -> Option<Line>
     ensures { result ≡ lmc_line line.now }

@@ -1,4 +1,4 @@
-//! What lines tell of a fabric.
+//! What lines say of a fabric.
 
 ghost use Rattle.std.specs.Prelude.{◌≡◌};
 ghost use Rattle.fabric_topology.specs.Facts.{guid_of, silent, telling, telling_two, telling_three};
@@ -6,24 +6,24 @@ ghost use Rattle.fabric_topology.specs.Facts.{guid_of, silent, telling, telling_
 /// A port at an end of a link.
 #[derive(Clone, Copy)]
 pub enum PortTold {
-    /// A port of the switch of this GUID.
+    /// A port of the switch with this GUID.
     OfSwitch { guid: u64, port: u64 },
-    /// The end port of this GUID, of an adapter or a router.
+    /// The end port with this GUID, of an adapter or router.
     OfHost { guid: u64 },
 }
 
-/// What a line tells. Numbers stand as in the text, in whatever range.
+/// What a line says. Numbers are those of the text, in whatever range.
 #[derive(Clone, Copy)]
 pub enum Fact {
-    /// A switch, how many ports it has, and the LIDs of its port 0: 2 to the LMC, from the base on. A base of 0 or
-    /// of 65535 says that there are none.
+    /// A switch, its number of ports, and the LIDs of its port 0: 2 to the power LMC, from the base on. A base of 0 or
+    /// 65535 means that there are none.
     Switch {
         guid: u64,
         ports: u64,
         base: u64,
         lmc: u64,
     },
-    /// An end port of an adapter or a router, and its LIDs.
+    /// An end port of an adapter or router, and its LIDs.
     Host {
         guid: u64,
         base: u64,
@@ -34,42 +34,42 @@ pub enum Fact {
         one: PortTold,
         other: PortTold,
     },
-    /// The base LID of an end port or of a switch, as its neighbour tells it.
+    /// The base LID of an end port or switch, as its neighbour gives it.
     Neighbour {
         guid: u64,
         base: u64,
     },
-    /// A switch of this GUID is in the text: a plain line names it.
+    /// The text has a switch with this GUID, because a plain line names it.
     HasSwitch {
         guid: u64,
     },
 }
 
-/// What one line says.
+/// The meaning of one line.
 #[derive(Clone, Copy)]
 pub struct Line {
-    /// Where the next line stands: it says what kind of line may follow.
+    /// The part of the text after this line, which decides what kind of line can follow.
     pub part: Part,
-    /// The first fact that it tells, if it tells one.
+    /// The first fact, if there is one.
     pub first: Option<Fact>,
-    /// The second one.
+    /// The second fact.
     pub second: Option<Fact>,
-    /// The third and last one.
+    /// The third and last fact.
     pub third: Option<Fact>,
 }
 
-/// Where in a text a line stands.
+/// The part of a text in which a line is.
 #[derive(Clone, Copy)]
 pub enum Part {
-    /// No line that says anything came.
+    /// Before every line that says something.
     Start,
-    /// In what `ibnetdiscover` prints, in the section of no node.
+    /// In the output of `ibnetdiscover`, outside the section of a node.
     Outside,
-    /// There, in the section of the switch of this GUID.
+    /// In the output of `ibnetdiscover`, in the section of the switch with this GUID.
     Switch { guid: u64 },
-    /// There, in the section of an adapter or router.
+    /// In the output of `ibnetdiscover`, in the section of an adapter or router.
     Adapter,
-    /// In an `opensm-subnet.lst`, before its first link, after a line that says the LMC.
+    /// In an `opensm-subnet.lst`, before its first link, after a line that gives the LMC.
     Lmc { lmc: u64 },
     /// In an `opensm-subnet.lst`, whose end ports of adapters and routers have this LMC.
     Dumped { lmc: u64 },
@@ -80,7 +80,7 @@ pub enum Part {
 }
 
 impl PortTold {
-    /// The GUID of the switch or of the end port.
+    /// Returns the GUID of the switch or end port.
     pub fn guid(self) -> u64
         ensures { result ≡ guid_of self }
     {
@@ -92,7 +92,7 @@ impl PortTold {
 }
 
 impl Line {
-    /// A line that tells nothing.
+    /// Returns a line without facts.
     pub fn silent(part: Part) -> Line
         ensures { result ≡ silent part }
     {
@@ -104,7 +104,7 @@ impl Line {
         }
     }
 
-    /// A line that tells one fact.
+    /// Returns a line with one fact.
     pub fn of(part: Part, fact: Fact) -> Line
         ensures { result ≡ telling part fact }
     {
@@ -116,7 +116,7 @@ impl Line {
         }
     }
 
-    /// A line that tells two facts.
+    /// Returns a line with two facts.
     pub fn of_two(part: Part, first: Fact, second: Fact) -> Line
         ensures { result ≡ telling_two part first second }
     {
@@ -128,7 +128,7 @@ impl Line {
         }
     }
 
-    /// A line that tells three facts.
+    /// Returns a line with three facts.
     pub fn of_three(part: Part, first: Fact, second: Fact, third: Fact) -> Line
         ensures { result ≡ telling_three part first second third }
     {

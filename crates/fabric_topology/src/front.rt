@@ -1,4 +1,4 @@
-//! What stands at the front of a text.
+//! Prefixes of a text.
 
 ghost use Rattle.std.specs.Prelude.{◌≡◌, Some, None, MatchOption};
 ghost use Rattle.fabric_topology.specs.Fronts.{begins, number_then, front_number};
@@ -6,7 +6,7 @@ ghost use Rattle.fabric_topology.specs.Fronts.{begins, number_then, front_number
 use fabric_words::cut::cut;
 use fabric_words::digits::decimal;
 
-/// Whether a text begins with this one.
+/// Reports whether `text` begins with `front`.
 #[inline(always)]
 pub fn begins(text: &[u8], front: &str) -> bool
     ensures { result ≡ begins front.now text.now }
@@ -14,7 +14,7 @@ pub fn begins(text: &[u8], front: &str) -> bool
     text.starts_with(front.as_bytes())
 }
 
-/// The number at the front of a text, up to a space, and what stands after that.
+/// Returns the number before the first space, and what follows that space.
 #[tactic(auto, unfolding(crate::specs::Fronts::number_then))]
 pub fn number_then(text: &[u8]) -> Option<(u64, &[u8])>
     ensures { MatchOption result (number_then text.now ≡ None)
@@ -25,7 +25,7 @@ pub fn number_then(text: &[u8]) -> Option<(u64, &[u8])>
     Some((number, rest))
 }
 
-/// The number at the front of a text, up to a space or the end.
+/// Returns the number before the first space, or the whole text as a number.
 #[tactic(auto, unfolding(crate::specs::Fronts::front_number))]
 pub fn front_number(text: &[u8]) -> Option<u64>
     ensures { result ≡ front_number text.now }

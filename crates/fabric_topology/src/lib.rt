@@ -1,9 +1,10 @@
-//! The topologies of InfiniBand fabrics: what `ibnetdiscover` prints, what OpenSM writes into
-//! `opensm-subnet.lst`, and a plain format.
+//! fabric, readers: lines of topology files: output of `ibnetdiscover`, OpenSM's `opensm-subnet.lst`, and a plain
+//! format.
 //!
-//! It stands on `common_lines` and `fabric_words`. Its contract: `reader::says` answers what a line says where it
-//! stands, at most three facts, as `specs/Discovered`, `specs/Dumped` and `specs/Plain` define it for each form.
-//! `specs/Unset` defines how many end ports of a text say that their base LID is 65535, which is none.
+//! The crate depends on `common_lines` and `fabric_words`. Its contract: `reader::says` returns what a line says at its
+//! part of the text, at most three facts, as `specs/Discovered`, `specs/Dumped` and `specs/Plain` define it for each
+//! format. `names` finds the names of nodes. `specs/Unset` defines how many end ports of a text have the base LID
+//! 65535, which means none.
 #![tactic(auto)]
 
 pub mod cause;

@@ -1,4 +1,4 @@
-//! The names of nodes, which the facts of a text leave out.
+//! The names of nodes, which facts do not contain.
 
 ghost use Rattle.std.specs.Prelude.{◌≡◌, ◌++◌, [], ℕ, List, IfOk, OnOk, nat_eq};
 ghost use Rattle.std.specs.Map.{lookup};
@@ -7,20 +7,23 @@ ghost use Rattle.fabric_topology.specs.Names.{AreNamesBy, AreNamesOf, braced, fa
 ghost use Rattle.fabric_topology.specs.Names.{near_braced, near_name, node_told, past, past_four, plain_name};
 ghost use Rattle.fabric_topology.specs.Names.{section_name};
 
+use crate::discovered::quoted;
+use crate::dumped::{far_parts, near_parts};
+use crate::fact::{Fact, Part};
+use crate::reader::says;
 use common_lines::line::first_line;
 use common_values::memory::OutOfMemory;
 use common_values::text::Word;
-use fabric_topology::discovered::quoted;
-use fabric_topology::dumped::{far_parts, near_parts};
-use fabric_topology::fact::{Fact, Part};
-use fabric_topology::reader::says;
 use fabric_words::cut::{after, cut, cut_first, cut_last};
 use indexmap::{IndexMap, IndexSet};
 use std::alloc::Global;
 
-/// What a text calls the nodes of these GUIDs: a switch by its GUID, an end port of an adapter or router by
-/// that of the port. If several lines name a node, the first counts. A node that none names is left out,
-/// and so is each that is not asked for. A line that is no line of a topology ends the text.
+/// Returns the names that a text gives to the nodes with GUIDs in `guids`: a switch by its GUID, an end port of an
+/// adapter or router by the GUID of the port. If several lines name a node, the first counts. A node without a name is
+/// left out. A line that is not a line of a topology ends the text.
+///
+/// # Errors
+/// `OutOfMemory`.
 pub fn names_of(
     alloc: Global,
     bytes: &[u8],

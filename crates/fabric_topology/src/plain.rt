@@ -95,14 +95,14 @@ fn item(line: &[u8]) -> Option<Line>
     plain_link(text)
 }
 
-/// Whether a line is empty or a comment.
+/// Reports whether `line` is empty or a comment.
 pub fn is_silent(line: &[u8]) -> bool
     ensures { result ≡ is_silent line.now }
 {
     line.is_empty() || begins(line, "#")
 }
 
-/// What a line says between the first and the last.
+/// Parses a line between the first and the last.
 #[tactic(auto, unfolding(crate::specs::Plain::plain))]
 pub fn plain(line: &[u8]) -> Option<Line>
     ensures { result ≡ plain line.now }
@@ -116,7 +116,7 @@ pub fn plain(line: &[u8]) -> Option<Line>
     item(line)
 }
 
-/// What a line says after the last.
+/// Parses a line after the last.
 #[tactic(auto, unfolding(crate::specs::Plain::ended))]
 pub fn ended(line: &[u8]) -> Option<Line>
     ensures { result ≡ ended line.now }

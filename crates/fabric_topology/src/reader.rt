@@ -1,4 +1,4 @@
-//! What the lines of a topology say, each by where it stands.
+//! The meaning of the lines of a topology, which depends on the part of the text.
 
 ghost use Rattle.std.specs.Prelude.{◌≡◌};
 ghost use Rattle.fabric_topology.specs.Texts.{dumped_or_silent, first, says, may_end};
@@ -10,10 +10,10 @@ use crate::front::begins;
 use crate::plain::{ended, is_silent, plain};
 use common_lines::word::is;
 
-/// The most bytes of a line, without what ends it.
+/// The highest number of bytes of a line, without its line end.
 pub const MOST_LINE: usize = 4_096;
 
-/// Whether a text may end here.
+/// Reports whether a text can end at part `part`.
 pub fn may_end(part: Part) -> bool
     ensures { result ≡ may_end part }
 {
@@ -29,7 +29,7 @@ pub fn may_end(part: Part) -> bool
     }
 }
 
-/// What a line of at most so many bytes says, by where it stands.
+/// Parses a line of at most `MOST_LINE` bytes, at part `part`.
 #[tactic(auto, unfolding(crate::specs::Texts::says))]
 pub fn says(part: Part, line: &[u8]) -> Option<Line>
     ensures { result ≡ says part line.now }

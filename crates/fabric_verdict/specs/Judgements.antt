@@ -8,8 +8,8 @@ use Rattle.fabric_verdict.specs.declared.judge.Judgement.{Judgement}
 use Rattle.fabric_verdict.specs.Count.{IsDependencyCount}
 use Rattle.fabric_verdict.specs.Verdict.{IsVerdict, PassesIfRanked}
 
--- the verdict; whether a route is stopped, and if none is and there is no credit loop, all arrive; and how many
--- dependencies there are
+-- `judged` has the verdict, whether a route is stopped, and the number of dependencies; if no route is
+-- stopped and there is no credit loop, every route arrives
 pub record IsJudgement (fabric : FabricOf) (tables : TablesOf) (traffic : Traffic) (judged : Judgement) : Type 0 where
   pub verdict : IsVerdict fabric tables traffic judged.verdict
   pub stops : IsTrue judged.stops ↔ SomeIsStopped fabric tables traffic

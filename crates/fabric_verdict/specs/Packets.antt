@@ -14,35 +14,36 @@ pub record Packet : Type 0 where
   pub lid : ℕ
   pub source : EndPort
 
--- it stands in a channel: its route comes to the switch out of which the channel leads, and takes the channel
+-- `packet` waits in `channel`: its route comes to the switch out of which the channel leads, and takes the
+-- channel
 pub record StandsIn (fabric : FabricOf) (tables : TablesOf) (traffic : Traffic) (channel : Channel) (packet : Packet)
     : Type 0 where
   pub comes : ComesTo fabric tables traffic packet.lid packet.source channel.switch
   pub far : ℕ
   pub takes : hop fabric tables channel.switch packet.lid ≡ On channel.port far
 
--- of each channel the packets that stand in it, the first one first
+-- for each channel, the packets that wait in it, the first one first
 abbrev pub QueuesOf : Type 0
 QueuesOf = Channel → List Packet
 
--- in no channel stands more than it has room for
+-- no channel holds more packets than its buffer space
 abbrev pub AllFit : (Channel → ℕ) → QueuesOf → Type 0
 AllFit room queue = (channel : Channel) → length (queue channel) ≤ room channel
 
--- each packet that is in a channel stands there
+-- every packet that is in a channel is on a route that takes the channel
 abbrev pub AllStand : FabricOf → TablesOf → Traffic → QueuesOf → Type 0
 AllStand fabric tables traffic queue =
     (channel : Channel) (packet : Packet) → Contains (queue channel) packet
     → StandsIn fabric tables traffic channel packet
 
--- A packet leaves where its route ends: it arrives, or the switch at which the route stops drops it.
+-- A packet leaves where its route ends: it arrives, or the switch where the route stops drops it.
 abbrev pub Leaves : Hop → Type 0
 Leaves (On port next) = ⊥
 Leaves Arrive = Unit {0}
 Leaves (Stop cause) = Unit {0}
 
--- what the switch at the far side of a channel does with a packet: it leaves there, or the channel that it takes next
--- has room for it
+-- the switch at the far side of `channel` can handle `packet`: it leaves there, or the channel that it takes
+-- next has free space
 pub record CanGo (fabric : FabricOf) (tables : TablesOf) (room : Channel → ℕ) (queue : QueuesOf) (channel : Channel)
     (packet : Packet)
     : Type 0 where
@@ -53,7 +54,7 @@ pub record CanGo (fabric : FabricOf) (tables : TablesOf) (room : Channel → ℕ
       ⊎ ((next : Channel) × (after : ℕ) × (next.switch ≡ far) × (hop fabric tables far packet.lid ≡ On next.port after)
       × (length (queue next) < room next))
 
--- the first packet of a channel can go
+-- the first packet of `channel` can go
 pub record FirstCanGo (fabric : FabricOf) (tables : TablesOf) (room : Channel → ℕ) (queue : QueuesOf)
     (channel : Channel)
     : Type 0 where
@@ -62,7 +63,8 @@ pub record FirstCanGo (fabric : FabricOf) (tables : TablesOf) (room : Channel �
   pub stand : queue channel ≡ first ∷ rest
   pub can : CanGo fabric tables room queue channel first
 
--- the first packet of a channel waits for another channel: it takes it next, and no place there is free
+-- the first packet of `channel` waits for `next`: it takes `next` after `channel`, and there is no free space
+-- in it
 pub record WaitsFor (fabric : FabricOf) (tables : TablesOf) (room : Channel → ℕ) (queue : QueuesOf)
     (channel next : Channel)
     : Type 0 where
@@ -74,7 +76,8 @@ pub record WaitsFor (fabric : FabricOf) (tables : TablesOf) (room : Channel → 
   pub wants : hop fabric tables next.switch first.lid ≡ On next.port after
   pub full : room next ≤ length (queue next)
 
--- from a channel, each time to the one for which its first packet waits, to one of which the first packet can go
+-- some walk leads from `channel`, each time to the channel for which the first packet waits, to a channel
+-- whose first packet can go
 pub record ComesFree (fabric : FabricOf) (tables : TablesOf) (room : Channel → ℕ) (queue : QueuesOf)
     (channel : Channel)
     : Type 0 where

@@ -1,9 +1,9 @@
--- Traffics by their routes.
+-- Traffics, ordered by their routes.
 use Rattle.std.specs.Prelude.{◌≤◌, ℕ}
 use Rattle.fabric_model.specs.declared.traffic.Traffic.{Traffic}
 use Rattle.fabric_model.specs.declared.traffic.Traffic.TheVariants.{Hosts, Lids, Managed, All, Rows}
 
--- the place of a traffic, from that of the fewest routes on
+-- the index of the traffic, in the order from the fewest routes on
 abbrev pub place_of : Traffic → ℕ
 place_of Hosts = 0
 place_of Lids = 1
@@ -11,6 +11,6 @@ place_of Managed = 2
 place_of All = 3
 place_of Rows = 4
 
--- a traffic is another one or has a lesser place
+-- `one` is `other`, or comes before it
 abbrev pub IsNoMore : Traffic → Traffic → Type 0
 IsNoMore one other = place_of one ≤ place_of other

@@ -12,27 +12,28 @@ use Rattle.fabric_verdict.specs.declared.verify.Rise.{Rise}
 use Rattle.fabric_verdict.specs.declared.verify.Verified.{Verified}
 use Rattle.fabric_verdict.specs.Verdict.{AllArrive, channel_cmp}
 
--- the rank that a list has for a channel, by its number, 0 if it has none
+-- the rank that `ranks` has for `channel`, by its number; 0 if it has none
 abbrev pub told_rank : FabricOf → List ℕ → Channel → ℕ
 told_rank fabric ranks channel = value_at ranks (number fabric channel)
 
--- the ranks fall along each dependency
+-- `ranks` fall along every dependency
 abbrev pub Fall : FabricOf → TablesOf → Traffic → List ℕ → Type 0
 Fall fabric tables traffic ranks =
     (channel next : Channel) → DependsOn fabric tables traffic channel next
     → told_rank fabric ranks next < told_rank fabric ranks channel
 
--- a dependency along which they do not
+-- `channel` depends on `next`, and `ranks` do not fall along this dependency
 pub record Rises (fabric : FabricOf) (tables : TablesOf) (traffic : Traffic) (ranks : List ℕ) (channel next : Channel)
     : Type 0 where
   pub depends : DependsOn fabric tables traffic channel next
   pub rises : told_rank fabric ranks channel ≤ told_rank fabric ranks next
 
--- by switch, then by port, a channel is another one or stands before it
+-- `channel` is `other` or comes before it, by switch and then by port
 abbrev pub IsUpTo : Channel → Channel → Type 0
 IsUpTo channel other = IsTrue (is_le (channel_cmp channel other))
 
--- the first of these: from the least channel, and to the least one; their ranks; and the least route that makes it
+-- `rise` is the first dependency along which `ranks` do not fall: from the lowest channel, and to the lowest
+-- one. It has their ranks, and the least route that makes the dependency.
 pub record IsFirstRise (fabric : FabricOf) (tables : TablesOf) (traffic : Traffic) (ranks : List ℕ) (rise : Rise)
     : Type 0 where
   pub rises : Rises fabric tables traffic ranks (channel_of rise.channel) (channel_of rise.next)
@@ -48,8 +49,9 @@ pub record IsFirstRise (fabric : FabricOf) (tables : TablesOf) (traffic : Traffi
       IsLeastWitness fabric tables traffic (channel_of rise.channel) (channel_of rise.next) rise.witness.lid
       rise.witness.source
 
--- The ranks fall along each dependency, so that there is no credit loop, or the first along which they do not is
--- told; and whether a route is stopped. If the ranks fall and none is, all arrive.
+-- The ranks fall along every dependency, so that there is no credit loop, or `found` has the first along
+-- which they do not; and `found` says whether a route is stopped. If the ranks fall and no route is stopped,
+-- every route arrives.
 pub record IsVerified (fabric : FabricOf) (tables : TablesOf) (traffic : Traffic) (ranks : List ℕ) (found : Verified)
     : Type 0 where
   pub rise : MatchOption found.rise (Fall fabric tables traffic ranks) (IsFirstRise fabric tables traffic ranks)

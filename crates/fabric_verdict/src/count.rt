@@ -20,7 +20,7 @@ fn count_from(graph: &Graph, node: usize) -> u64
     count
 }
 
-/// How many steps a graph has.
+/// Returns the number of steps of `graph`.
 pub fn count_steps(graph: &Graph) -> u64
     ensures { IsCountOf (IsStep graph.now) result }
 {

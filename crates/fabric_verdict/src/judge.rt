@@ -27,13 +27,14 @@ use std::alloc::Global;
 pub struct Judgement {
     /// The ranks of the channels, or the least credit loop with the routes that make it.
     pub verdict: Verdict,
-    /// Whether some route stops before its target.
+    /// Whether at least one route stops before its target.
     pub stops: bool,
-    /// How many pairs of channels there are of which the one depends on the other.
+    /// The number of pairs of channels of which the first depends on the second.
     pub dependencies: u64,
 }
 
-/// The port of a place: port p of switch s has the place s times the most ports of a switch, plus p - 1.
+/// Returns the port at index `place`: port p of switch s has index s times `most`, plus p - 1. The caller must pass a
+/// `most` from 1 to 254.
 pub fn spot_of(most: usize, place: u32) -> Spot
     requires some { 0 < most }
     requires few { most < 255 }
@@ -118,10 +119,14 @@ fn verdict_on(
     }
 }
 
-/// Judges the tables of a fabric by the routes of a traffic: the ranks of the channels exactly if there is no
-/// credit loop, else the least one, with the least route that makes each of its dependencies; whether a route
-/// stops; and how many dependencies there are. If there is no credit loop and none stops, all arrive. The
-/// error is out of memory alone.
+/// Judges the tables by the routes of `traffic`.
+///
+/// The verdict is ranks if and only if there is no credit loop, else the least credit loop, with the least route that
+/// makes each of its dependencies. If there is no credit loop and no route stops, every route arrives. The caller must
+/// pass tables that have all switches and all owned LIDs of the fabric.
+///
+/// # Errors
+/// `OutOfMemory`.
 pub fn judge(
     alloc: Global,
     fabric: &Fabric,

@@ -17,8 +17,8 @@ ghost use Rattle.fabric_verdict.specs.Traffics.{IsNoMore};
 ghost use Rattle.fabric_verdict.specs.Verified.{Fall, IsVerified};
 ghost use Rattle.fabric_verdict.specs.Verdict.{AllArrive, AreAtMost, ArrivesBy, CycleIs, HasRanks, rank_in, spots_in};
 
-/// Routes arrive, and soon: if there is no credit loop and no route of the traffic stops, each arrives, by
-/// at most one link more than the greatest rank, so past at most two switches more than that.
+/// Proves that routes arrive soon: if there is no credit loop and no route of the traffic stops, every route arrives.
+/// It crosses at most one link more than the highest rank, so at most two switches more.
 pub fn routes_arrive_soon()
     ensures { (fabric : FabricOf) (tables : TablesOf) (traffic : Traffic) (ranks : List ℕ) (most lid : ℕ)
         (source : EndPort)
@@ -28,10 +28,11 @@ pub fn routes_arrive_soon()
         → (links : ℕ) × (links ≤ most + 1) × ArrivesBy fabric tables lid source links }
 {}
 
-/// Some packet can move, and what waits leads to it. Let there be no credit loop, let each channel have at least one
-/// place, and let each packet stand on a route of the traffic. From each channel that is not empty, each time to the
-/// channel for which its first packet waits, one comes to a channel whose first packet leaves or has room ahead. Routes
-/// may be lost: a packet whose route stops at a switch is taken to be dropped there, so it leaves.
+/// Proves that some packet can move, and that waiting packets lead to it. Suppose that there is no credit loop, that
+/// every channel has space for at least one packet, and that every packet is on a route of the traffic. Start at any
+/// channel that is not empty, and go each time to the channel for which its first packet waits: you come to a channel
+/// whose first packet leaves or has free space ahead. Routes can be lost: a packet whose route stops at a switch is
+/// dropped there, so it leaves.
 pub fn some_packet_can_move()
     ensures { (fabric : FabricOf) (tables : TablesOf) (traffic : Traffic) (ranks : List ℕ) (room : Channel → ℕ)
         (queue : QueuesOf) (channel : Channel)
@@ -40,7 +41,8 @@ pub fn some_packet_can_move()
         → ComesFree fabric tables room queue channel }
 {}
 
-/// No packet is dropped if no route of the traffic stops: what leaves at the far side of its channel arrives.
+/// Proves that no packet is dropped if no route of the traffic stops: a packet that leaves at the far side of its
+/// channel arrives.
 pub fn no_packet_is_dropped()
     ensures { (fabric : FabricOf) (tables : TablesOf) (traffic : Traffic) (channel : Channel) (packet : Packet)
         → ((to : ℕ) (from : EndPort) → IsStopped fabric tables traffic to from → ⊥)
@@ -48,9 +50,9 @@ pub fn no_packet_is_dropped()
         → Leaves (hop fabric tables stands.far packet.lid) → hop fabric tables stands.far packet.lid ≡ Arrive }
 {}
 
-/// A credit loop can be full, for any numbers of places in the channels, at least one each. There is a filling of no
-/// more than these, each packet on a route of the traffic. In it each channel of the loop is full, and the first
-/// packet of none can go.
+/// Proves that a credit loop can be full, whatever buffer space the channels have, at least one packet each. Some
+/// filling of at most this space, with each packet on a route of the traffic, fills every channel of the loop, and the
+/// first packet of none of them can go.
 pub fn a_cycle_can_be_full()
     ensures { (fabric : FabricOf) (tables : TablesOf) (traffic : Traffic) (start : Channel) (rest : List Channel)
         (room : Channel → ℕ)
@@ -61,15 +63,15 @@ pub fn a_cycle_can_be_full()
         → FirstCanGo fabric tables room queue channel → ⊥) }
 {}
 
-/// Ranks suffice: any numbers that fall along each dependency exclude a credit loop.
+/// Proves that ranks suffice: any numbers that fall along every dependency exclude a credit loop.
 pub fn ranks_suffice()
     ensures { (fabric : FabricOf) (tables : TablesOf) (traffic : Traffic) (rank : Channel → ℕ)
         → ((channel next : Channel) → DependsOn fabric tables traffic channel next → rank next < rank channel)
         → HasNoCycle (DependsOn fabric tables traffic) }
 {}
 
-/// Ranks that `judge` gives fall along each dependency; and of ranks that fall `verify` never tells a dependency along
-/// which they do not.
+/// Proves that ranks from `judge` fall along every dependency, and that `verify` never reports a rise for ranks that
+/// fall.
 pub fn ranks_that_fall()
     ensures given { (fabric : FabricOf) (tables : TablesOf) (traffic : Traffic) (ranks : List ℕ)
         → HasRanks fabric tables traffic ranks → Fall fabric tables traffic ranks }
@@ -77,9 +79,9 @@ pub fn ranks_that_fall()
         → Fall fabric tables traffic ranks → IsVerified fabric tables traffic ranks found → found.rise ≡ None }
 {}
 
-/// Fewer routes, fewer dependencies. Of two traffics the one may stand before the other in `hosts`, `lids`, `managed`,
-/// `all`, `rows`. Then who sends by the one sends by the other too, and what depends by the one depends by the other. So
-/// what passes for the other passes for the one.
+/// Proves that fewer routes make fewer dependencies. If one traffic comes before another in `hosts`, `lids`, `managed`,
+/// `all`, `rows`, every end port that sends in the first also sends in the other, and every dependency of the first is
+/// one of the other. So tables that pass for the other traffic pass for the first.
 pub fn fewer_routes_fewer_dependencies()
     ensures sends { (fabric : FabricOf) (tables : TablesOf) (one other : Traffic) (lid : ℕ) (source : EndPort)
         → IsNoMore one other → Sends fabric tables one lid source → Sends fabric tables other lid source }
@@ -92,9 +94,9 @@ pub fn fewer_routes_fewer_dependencies()
         → HasNoCycle (DependsOn fabric tables one) × AllArrive fabric tables one }
 {}
 
-/// Tables have one verdict: the rank of each channel is one; the least credit loop is one, and so are the LID
-/// and the GUID of the source of the least route that makes a dependency; there are not both; if each route
-/// of the traffic arrives, none is stopped; and the numbers of links, channels and dependencies are one.
+/// Proves that tables have one verdict. Each channel has one rank. There is one least credit loop, and one LID and one
+/// GUID of the source of the least route that makes a dependency. Ranks and a credit loop exclude each other. If every
+/// route of the traffic arrives, none is stopped. The numbers of links, channels and dependencies are unique.
 pub fn one_answer()
     ensures ranks { (fabric : FabricOf) (tables : TablesOf) (traffic : Traffic) (one other : List ℕ)
         (channel : Channel)

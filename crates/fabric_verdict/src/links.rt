@@ -13,9 +13,9 @@ use fabric_model::node::Side;
 /// The links between the switches of a fabric.
 #[derive(Clone, Copy)]
 pub struct Links {
-    /// How many there are. A port that is linked with itself makes one.
+    /// The number of links. A port that is linked to itself counts as one.
     pub links: u64,
-    /// How many channels they make: ports that lead to a switch.
+    /// The number of channels, that is, of ports that lead to a switch.
     pub channels: u64,
 }
 
@@ -60,7 +60,7 @@ fn links_of(fabric: &Fabric, switch: usize) -> Links
     Links { links, channels }
 }
 
-/// Counts the links between the switches of a fabric, and the channels.
+/// Counts the links between the switches of `fabric`, and the channels, which are below 2^22.
 pub fn count_links(fabric: &Fabric) -> Links
     ensures links { IsLinkCount fabric.now result.links }
     ensures channels { IsChannelCount fabric.now result.channels }

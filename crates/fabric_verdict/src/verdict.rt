@@ -8,26 +8,26 @@ use fabric_routes::witness::Witness;
 pub struct LoopChannel {
     /// The port out of which it leads.
     pub channel: Spot,
-    /// The route that takes it and then, directly, the next channel of the loop: the one to the least LID, and of those
-    /// to it the one from the end port of least GUID.
+    /// The route that takes it and then, directly, the next channel of the loop: the route to the lowest LID, and of
+    /// those the one from the end port of lowest GUID.
     pub witness: Witness,
 }
 
-/// Whether there is a credit loop, a cycle of channels of which each depends on the next. A channel is the link out of
+/// Whether there is a credit loop: a cycle of channels, each of which depends on the next. A channel is the link out of
 /// a port of a switch to another switch.
 #[derive(Drop)]
 pub enum Verdict {
-    /// There is none. The rank of each channel: 0 if it depends on none, else one more than the greatest of
-    /// those on which it depends. The channel out of port p of switch s has the place s times the most ports
-    /// of a switch, plus p - 1; at the places of ports that lead to no switch stands 0.
+    /// There is no credit loop. The rank of a channel is 0 if it depends on none, else one more than the highest rank
+    /// of those on which it depends. The channel out of port p of switch s has index s times the most ports of a
+    /// switch, plus p - 1; a port that leads to no switch has 0 there.
     Ranks {
-        /// The ranks, by these places.
+        /// The ranks, at these indices.
         ranks: Vec<u32>,
     },
-    /// The least one: from the least channel on any, by switch, then by port, a shortest, and of these the least as a
-    /// list.
+    /// The least credit loop: it starts at the lowest channel that is on any loop, by switch and then by port, is one
+    /// of the shortest through it, and of these the least as a list.
     Cycle {
-        /// Its channels, of which each depends on the next, and the last on the first.
+        /// Its channels, each of which depends on the next, and the last on the first.
         channels: Vec<LoopChannel>,
     },
 }

@@ -22,16 +22,16 @@ use std::alloc::Global;
 /// A dependency along which ranks do not fall.
 #[derive(Clone, Copy)]
 pub struct Rise {
-    /// The channel that depends ..
+    /// The channel that depends on `next`.
     pub channel: Spot,
-    /// .. and its rank.
+    /// The rank of `channel`.
     pub rank: u32,
-    /// The channel on which it depends ..
+    /// The channel on which `channel` depends.
     pub next: Spot,
-    /// .. and its rank, which is not less.
+    /// The rank of `next`, which is not lower than `rank`.
     pub next_rank: u32,
-    /// The route that takes the one and then, directly, the other: the one to the least LID, and of those to it the one
-    /// from the end port of least GUID.
+    /// The route that takes `channel` and then, directly, `next`: the route to the lowest LID, and of those the one
+    /// from the end port of lowest GUID.
     pub witness: Witness,
 }
 
@@ -39,9 +39,9 @@ pub struct Rise {
 #[derive(Clone, Copy)]
 pub struct Verified {
     /// The first dependency along which the ranks do not fall, by switch and port of the channel that depends, then of
-    /// the other. None if they fall along each: so there is no credit loop.
+    /// the other. `None` if they fall along every dependency, so that there is no credit loop.
     pub rise: Option<Rise>,
-    /// Whether some route stops before its target.
+    /// Whether at least one route stops before its target.
     pub stops: bool,
 }
 
@@ -105,10 +105,15 @@ fn find_rise(
     }
 }
 
-/// Judges ranks from anywhere by the routes of a traffic: whether they fall along each dependency, so that there is no
-/// credit loop, else the first along which they do not, with the least route that makes it; and whether a route stops.
-/// The rank of the channel out of port p of switch s stands at the place s times the most ports of a switch, plus p - 1;
-/// if the list has none, it counts as 0. The error is want of memory alone.
+/// Judges `ranks`, from anywhere, by the routes of `traffic`: reports the first dependency along which they do not
+/// fall, with the least route that makes it, and whether a route stops.
+///
+/// The rank of the channel out of port p of switch s is at index s times the most ports of a switch, plus p - 1; if the
+/// list is shorter, it counts as 0. The caller must pass tables that have all switches and all owned LIDs of the
+/// fabric.
+///
+/// # Errors
+/// `OutOfMemory`.
 pub fn verify(
     alloc: Global,
     fabric: &Fabric,

@@ -1,4 +1,4 @@
--- The words for what is wrong with a text of lanes or of service levels.
+-- The words for the reasons for which a text of lanes or service levels is rejected.
 use Rattle.std.specs.Prelude.{ℕ, List, codes}
 use Rattle.fabric_words.specs.declared.lane_cause.LaneCause.{LaneCause}
 use Rattle.fabric_words.specs.declared.lane_cause.LaneCause.TheVariants.{LineTooLong, UnknownLine, BadRow}

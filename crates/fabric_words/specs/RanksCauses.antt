@@ -1,4 +1,4 @@
--- The words for what is wrong with a text of ranks.
+-- The words for the reasons for which a text of ranks is rejected.
 use Rattle.std.specs.Prelude.{ℕ, List, codes}
 use Rattle.fabric_words.specs.declared.ranks_cause.RanksCause.{RanksCause}
 use Rattle.fabric_words.specs.declared.ranks_cause.RanksCause.TheVariants.{LineTooLong, UnknownLine, BadGuid, BadPort, BadRank}

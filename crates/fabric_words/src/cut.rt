@@ -1,4 +1,4 @@
-//! Cuts of a text around what stands in it.
+//! Cuts of a text at given bytes.
 
 ghost use Rattle.std.specs.Prelude.{◌≡◌, Some, None, MatchOption};
 ghost use Rattle.memchr.specs.Find.{FindsLastNeedle};
@@ -8,7 +8,7 @@ use common_lines::line::first_of;
 use memchr::arch::all::is_prefix;
 use memchr::memmem;
 
-/// What stands after a front with which the text begins.
+/// Returns what follows `front`, if `text` begins with it.
 #[inline(always)]
 pub fn after<'a>(text: &'a [u8], front: &str) -> Option<&'a [u8]>
     ensures { MatchOption result (after front.now text.now ≡ None)
@@ -17,14 +17,14 @@ pub fn after<'a>(text: &'a [u8], front: &str) -> Option<&'a [u8]>
     text.strip_prefix(front.as_bytes())
 }
 
-/// Whether a text begins with these bytes.
+/// Reports whether `text` begins with `front`.
 pub fn begins(text: &[u8], front: &str) -> bool
     ensures { result ≡ begins front.now text.now }
 {
     after(text, front).is_some()
 }
 
-/// What stands before the first such byte, and after it. In a line it is a few bytes away.
+/// Returns what precedes the first `byte`, and what follows it. It expects `byte` within a few bytes.
 #[inline]
 pub fn cut(text: &[u8], byte: u8) -> Option<(&[u8], &[u8])>
     ensures { MatchOption result (cut byte text.now ≡ None)
@@ -34,7 +34,7 @@ pub fn cut(text: &[u8], byte: u8) -> Option<(&[u8], &[u8])>
     Some((&text[..place], &text[place + 1..]))
 }
 
-/// What stands before the first place of these bytes in the text, and after it.
+/// Returns what precedes the first occurrence of `bytes`, and what follows it.
 pub fn cut_first<'a>(text: &'a [u8], bytes: &str) -> Option<(&'a [u8], &'a [u8])>
     ensures { MatchOption result (cut_first bytes.now text.now ≡ None)
         (λ parts. cut_first bytes.now text.now ≡ Some (parts.0.now, parts.1.now)) }
@@ -43,7 +43,7 @@ pub fn cut_first<'a>(text: &'a [u8], bytes: &str) -> Option<(&'a [u8], &'a [u8])
     Some((&text[..place], &text[place + bytes.len()..]))
 }
 
-/// What stands before the last place of these bytes in the text, and after it.
+/// Returns what precedes the last occurrence of `bytes`, and what follows it.
 #[inline]
 pub fn cut_last<'a>(text: &'a [u8], bytes: &str) -> Option<(&'a [u8], &'a [u8])>
     ensures { MatchOption result (cut_last bytes.now text.now ≡ None)

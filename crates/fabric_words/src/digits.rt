@@ -8,7 +8,7 @@ ghost use Rattle.fabric_words.specs.Digits.{digit_or_more, is_hex, hex, guid, he
 use crate::cut::after;
 use common_lines::word::number_between;
 
-/// What a word of 1 to 16 hexadecimal digits says, in either case.
+/// Parses 1 to 16 hexadecimal digits, in either case.
 pub fn hex(word: &[u8]) -> Option<u64>
     ensures { result ≡ hex word.now }
 {
@@ -32,21 +32,21 @@ fn hex_number(word: &[u8]) -> Option<u64>
     Some(number)
 }
 
-/// What a word of exactly 16 hexadecimal digits says: a GUID as it is padded with zeros.
+/// Parses exactly 16 hexadecimal digits: a GUID padded with zeros.
 pub fn guid(word: &[u8]) -> Option<u64>
     ensures { result ≡ guid word.now }
 {
     if word.len() == 16 { hex(word) } else { None }
 }
 
-/// What 1 to 16 hexadecimal digits after `0x` say.
+/// Parses `0x` and 1 to 16 hexadecimal digits.
 pub fn hex_after(word: &[u8]) -> Option<u64>
     ensures { result ≡ hex_after word.now }
 {
     hex(after(word, "0x")?)
 }
 
-/// What a number in decimal says, up to a greatest one; only a lone `0` begins with 0.
+/// Parses a decimal number of at most `most`; only `0` itself begins with 0.
 pub fn number_to(word: &[u8], most: u64) -> Option<u64>
     ensures number { result ≡ number_to most word.now }
     ensures range { IfSome result (λ number. number ≤ most) }
@@ -54,7 +54,7 @@ pub fn number_to(word: &[u8], most: u64) -> Option<u64>
     number_between(word, 0, most)
 }
 
-/// What a number in decimal says, below 2^64; only a lone `0` begins with 0.
+/// Parses a decimal number below 2^64; only `0` itself begins with 0.
 pub fn decimal(word: &[u8]) -> Option<u64>
     ensures { result ≡ decimal word.now }
 {
@@ -84,8 +84,8 @@ const DIGITS: [u32; 256] = [
     NONE, NONE, NONE, NONE, NONE, NONE, NONE,
 ];
 
-/// What a byte says as a hexadecimal digit, in either case, and 2^16 if it is none. So one test tells of four
-/// bytes whether all are digits.
+/// Returns the value of a hexadecimal digit, in either case, or 2^16 if `c` is not one. So one test finds out whether
+/// four bytes are all digits.
 #[inline]
 pub fn digit_or_more(c: u8) -> u32
     ensures digit { result ≡ digit_or_more c }
@@ -94,7 +94,7 @@ pub fn digit_or_more(c: u8) -> u32
     DIGITS[c as usize]
 }
 
-/// What a hexadecimal digit says, in either case.
+/// Returns the value of a hexadecimal digit, in either case.
 #[inline]
 pub fn hex_digit(c: u8) -> Option<u8>
     ensures digit { MatchOption result (is_digit c 16 ≡ false)

@@ -1,4 +1,4 @@
-//! The head of a node's part, in a text of lanes or of service levels.
+//! The head of a node's part, in a text of lanes or service levels.
 
 ghost use Rattle.std.specs.Prelude.{◌≡◌};
 ghost use Rattle.fabric_words.specs.Heads.{head_guid, node_head};
@@ -6,17 +6,17 @@ ghost use Rattle.fabric_words.specs.Heads.{head_guid, node_head};
 use crate::cut::after;
 use crate::digits::guid;
 
-/// Whose part begins.
+/// The node whose part begins.
 #[derive(Clone, Copy)]
 pub enum NodeHead {
-    /// That of the switch with this GUID.
+    /// The switch with this GUID.
     Switch(u64),
-    /// That of the end port with this GUID, of an adapter or router.
+    /// The end port with this GUID, of an adapter or router.
     Adapter(u64),
 }
 
-/// The head that a line is: the kind of the node, the GUID of the port in 16 digits after `0x`, and `, base
-/// LID `, which anything may follow.
+/// Parses the head of a part: the kind of the node, the GUID of the port in 16 digits after `0x`, and `, base LID `.
+/// Anything can follow.
 #[tactic(auto, unfolding(crate::specs::Heads::node_head))]
 pub fn node_head(line: &[u8]) -> Option<NodeHead>
     ensures { result ≡ node_head line.now }

@@ -1,4 +1,4 @@
-//! Why a text is no text of lanes, or of service levels.
+//! Why a text of lanes or service levels is rejected.
 
 ghost use Rattle.std.specs.Prelude.{◌≡◌};
 ghost use Rattle.fabric_words.specs.LaneCauses.{cause_text};
@@ -6,26 +6,26 @@ ghost use Rattle.fabric_words.specs.LaneCauses.{cause_text};
 use crate::text_cause::TextCause;
 use common_lines::stop::Stop;
 
-/// What is wrong with a line of lanes or of service levels.
+/// The error in a line of lanes or service levels.
 #[derive(Clone, Copy)]
 pub enum LaneCause {
     /// The line has more than 4,096 bytes.
     LineTooLong,
     /// The line has none of the known forms.
     UnknownLine,
-    /// A number of the row is none, or too great: a port above 255, a lane or a level above 15.
+    /// A field of the row is not a number, or is too high: a port above 255, a lane or a level above 15.
     BadRow,
-    /// A row's LID is above 0xbfff: a multicast LID.
+    /// The LID of the row is above 0xbfff: a multicast LID.
     LidRange,
-    /// The line names a switch that the topology has not.
+    /// The line names a switch that the topology does not have.
     UnknownSwitch,
-    /// The line names an end port that the topology has not.
+    /// The line names an end port that the topology does not have.
     UnknownEnd,
-    /// A port of the row is above those that the switch has.
+    /// A port of the row is above those of the switch.
     NoSuchPort,
-    /// The line has a known form that may not stand here, as a row before the head of its part.
+    /// The line has a known form that is not allowed here, for example a row before the head of its part.
     OutOfPlace,
-    /// A part ends without its last line: it was cut off. Or the text has no part.
+    /// A part ends without its last line, because the text was cut off; or the text has no part.
     NoEnd,
     /// An earlier row has other lanes for these ports.
     LanesDiffer,
@@ -33,11 +33,11 @@ pub enum LaneCause {
     TooMany,
 }
 
-/// Why a line is not taken.
+/// Why a line is rejected.
 pub type LaneStop = Stop<LaneCause>;
 
 impl LaneCause {
-    /// The words for it in messages.
+    /// Returns the words for the reason in messages.
     pub fn text(self) -> &'static str
         ensures { result.now ≡ cause_text self }
     {

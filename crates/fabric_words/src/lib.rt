@@ -1,9 +1,8 @@
-//! Words of the texts that describe InfiniBand fabrics: cuts of a line around what stands in it, numbers in
-//! hexadecimal and decimal digits, the rows of forwarding tables, the heads of nodes, and what is said of a faulty
-//! line of ranks, of lanes or of service levels.
+//! fabric, readers: words of the file formats: cuts of a line, hexadecimal and decimal numbers, rows of forwarding
+//! tables, heads of nodes, and the reasons for which a line of ranks, lanes or service levels is rejected.
 //!
-//! It stands on `common_lines`, from which it takes decimal numbers, and on `memchr`. Its contract: each
-//! function answers exactly what its definition in `specs/` says of the bytes, or of the cause.
+//! The crate depends on `common_lines`, for decimal numbers, and on `memchr`. Its contract: each function returns what
+//! its definition in `specs/` says of the bytes or of the reason.
 #![tactic(auto)]
 
 pub mod cut;

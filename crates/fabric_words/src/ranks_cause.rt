@@ -1,35 +1,35 @@
-//! Why a text tells no ranks.
+//! Why a text of ranks is rejected.
 
 ghost use Rattle.std.specs.Prelude.{◌≡◌};
 ghost use Rattle.fabric_words.specs.RanksCauses.{cause_text};
 
-/// What is wrong with a line of ranks.
+/// The error in a line of ranks.
 #[derive(Clone, Copy)]
 pub enum RanksCause {
     /// It has more than 200 bytes.
     LineTooLong,
-    /// It is no line of ranks.
+    /// It is not a line of ranks.
     UnknownLine,
-    /// The GUID is not `0x` and 1 to 16 hexadecimal digits.
+    /// The GUID is not `0x` with 1 to 16 hexadecimal digits.
     BadGuid,
-    /// The port is no number up to 255.
+    /// The port is not a number of at most 255.
     BadPort,
-    /// The rank is no number below 2^32.
+    /// The rank is not a number below 2^32.
     BadRank,
-    /// The head stands there again, or a rank before it.
+    /// The head occurs again, or a rank comes before it.
     OutOfPlace,
     /// No switch of the fabric has this GUID.
     UnknownSwitch,
     /// The port does not lead to a switch.
     NoChannel,
-    /// A rank of this channel was told before.
+    /// An earlier line has a rank for this channel.
     RankTold,
     /// There is no head.
     NoHead,
 }
 
 impl RanksCause {
-    /// The words for it in messages.
+    /// Returns the words for the reason in messages.
     pub fn text(self) -> &'static str
         ensures { result.now ≡ cause_text self }
     {

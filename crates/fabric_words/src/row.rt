@@ -6,8 +6,8 @@ ghost use Rattle.fabric_words.specs.Rows.{is_row, row, four_hex, three_decimal};
 
 use crate::digits::digit_or_more;
 
-/// What a row says: a LID and a port. It is `0x` and four hexadecimal digits, a space and three decimal
-/// digits, and after these nothing, or a space and anything.
+/// Parses a row into a LID and a port: `0x` and four hexadecimal digits, a space and three decimal digits, then
+/// nothing, or a space and anything.
 #[inline]
 pub fn row(line: &[u8]) -> Option<(u16, u8)>
     ensures { result ≡ row line.now }

@@ -1,4 +1,4 @@
-//! How broadcasts go in a script's network.
+//! Prints the broadcasts in a script's network.
 
 ghost use Rattle.std.specs.Prelude.{◌≡◌, ◌++◌, ◌∷◌, List, [], All, codes, length, map, IfOk, OnOk};
 ghost use Rattle.std.specs.Fmt.{decimal};
@@ -47,7 +47,7 @@ fn push_hops(lives: &Lives, text: &mut Vec<u8>, hops: &[FloodHop]) -> Result<(),
     Ok(())
 }
 
-// Appends the line of who sends a broadcast.
+// Appends the line of the sender of a broadcast.
 fn push_from(lives: &Lives, text: &mut Vec<u8>, life: Life) -> Result<(), OutOfMemory>
     ensures { OnOk result (text.new.items
         ≡ text.old.items ++ line_text (line_words lives.now.script.now (From life))) }
@@ -56,7 +56,7 @@ fn push_from(lives: &Lives, text: &mut Vec<u8>, life: Life) -> Result<(), OutOfM
     push_line(text, &[b"flood", &name])
 }
 
-// Appends the line that says how many members get a copy.
+// Appends the line of the number of members that get a copy.
 fn push_copies(text: &mut Vec<u8>, members: usize) -> Result<(), OutOfMemory>
     ensures { OnOk result (text.new.items ≡ text.old.items
         ++ line_text (codes "copies" ∷ decimal members ∷ [])) }
@@ -81,7 +81,7 @@ fn push_flood(
     push_copies(text, members)
 }
 
-// Appends the lines of the broadcasts from the members of a component, which go so.
+// Appends the lines of the broadcasts from the members of a component, where `flood` is made for it.
 fn push_broadcasts(
     lives: &Lives,
     text: &mut Vec<u8>,
@@ -102,7 +102,7 @@ fn push_broadcasts(
     Ok(())
 }
 
-// The same, where it is found how they go.
+// Appends the lines of the broadcasts from the members of a component.
 fn push_floods(lives: &Lives, text: &mut Vec<u8>, component: &Entries) -> Result<(), OutOfMemory>
     requires { IsTree component.now }
     ensures { OnOk result ((floods : List (List FloodHopOf))
@@ -131,9 +131,14 @@ fn text_of(lives: &Lives, forest: &[Entries]) -> Result<Vec<u8>, OutOfMemory>
     Ok(text)
 }
 
-/// How broadcasts go in the script's network with all links up: for each component, by rising root,
-/// and each member, by rising life, who sends, the hops of its broadcast, and how many members get a
-/// copy; last `end`. Each line ends in a line feed.
+/// Returns the paths of broadcasts in the script's network, with all links up.
+///
+/// For each component, in ascending order of root, and each member, in ascending order of life, the
+/// lines are: the sender, the hops of its broadcast, and the number of members that get a copy. The last
+/// line is `end`. Each line ends in a line feed.
+///
+/// # Errors
+/// `OutOfMemory` if an allocation fails.
 pub fn flood(alloc: Global, script: &Script) -> Result<Vec<u8>, OutOfMemory>
     ensures { IfOk result (λ text. IsFloodOf script.now text.items) }
 {

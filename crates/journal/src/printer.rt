@@ -35,7 +35,12 @@ const LINE: usize = 16;
 // The making of a switch's lines pays if there are about so many events for each switch.
 const WORTH_LINES: usize = 128;
 
-/// The text of a journal: the first line, a line for each event, and the last line.
+/// Returns the text of `journal`: the first line, a line for each event, and the last line.
+///
+/// The caller must pass events whose names and numbers `script` allows (`CanSpell`).
+///
+/// # Errors
+/// `OutOfMemory` if an allocation fails.
 pub fn print(alloc: Global, script: &Script, journal: &Journal) -> Result<Vec<u8>, OutOfMemory>
     requires spelled { All (CanSpell script.now) journal.now }
     ensures { IfOk result (λ text. text.items ≡ journal_text script.now journal.now) }

@@ -1,4 +1,4 @@
-//! The words of a line of a journal: which event they say, and what is wrong with them.
+//! The words of a line of a journal: their event, or their error.
 
 ghost use Rattle.std.specs.Prelude.{◌≡◌, ◌≢◌, ◌<◌, ◌≤◌, [], ◌∷◌, map, IfSome, IfNone};
 ghost use Rattle.std.specs.Fmt.{decimal};
@@ -19,7 +19,10 @@ use journal_cause::cause::JournalCause;
 use net_script::command::WireChange;
 use net_script::script::Script;
 
-/// The event that words say.
+/// Returns the event that `words` describe.
+///
+/// # Errors
+/// The error of the words: `UnknownWord`, `NoSuchName` or `BadNumber`.
 pub fn read_words(script: &Script, words: &[&[u8]]) -> Result<Event, JournalCause>
     ensures { ReadsWords script.now (map (λ w. w.now) words.now) result }
 {
@@ -166,7 +169,7 @@ fn host_at(script: &Script, word: &[u8]) -> Result<u16, JournalCause>
     script.place_of_host(word).ok_or(JournalCause::NoSuchName)
 }
 
-// The number of a range that a word says.
+// The value of a word that is a number from `least` to `most`.
 fn number_in(word: &[u8], least: u64, most: u64) -> Result<u64, JournalCause>
     ensures { IsGoodField result (number_cause least most word.now)
         (λ n. (word.now ≡ decimal n) × (least ≤ n) × (n ≤ most)) }

@@ -1,4 +1,4 @@
-//! Names, by place.
+//! Lists of names.
 
 ghost use Rattle.std.specs.Prelude.{◌≡◌, ◌==◌, ◌-◌, ◌<◌, [], ◌∷◌, ◌++◌, length, take, Contains, IfSome, OnOk, OnErr, slice_index_or};
 ghost use Rattle.net_names.specs.Names.{place_of};
@@ -9,8 +9,9 @@ use indexmap::IndexSet;
 use std::alloc::Global;
 use std::marker::Model;
 
-/// Names, all different, each at the place at which it was added, which contracts see as a list. The
-/// place of a name is looked up by a hash of it, and no list is walked.
+/// Different names in the order in which they were added. Contracts see them as a list.
+///
+/// The index of a name is found by its hash, without a search through the list.
 #[derive(Drop)]
 pub struct Names {
     texts: IndexSet<Vec<u8>>,
@@ -25,7 +26,7 @@ impl Model for Names {
 }
 
 impl Names {
-    /// No names.
+    /// Creates an empty list.
     pub fn new(alloc: Global) -> Self
         ensures { result ≡ [] }
     {
@@ -34,21 +35,21 @@ impl Names {
         }
     }
 
-    /// How many names there are.
+    /// Returns the number of names.
     pub fn len(&self) -> usize
         ensures { result ≡ length self.now }
     {
         self.texts.len()
     }
 
-    /// Whether there are no names.
+    /// Reports whether there are no names.
     pub fn is_empty(&self) -> bool
         ensures { result ≡ (length self.now == 0) }
     {
         self.len() == 0
     }
 
-    /// The name at a place, as bytes.
+    /// Returns the name at index `place`. The caller must pass an index below the number of names.
     pub fn get(&self, place: usize) -> &[u8]
         requires { place < length self.now }
         ensures { result.now ≡ slice_index_or self.now place [] }
@@ -56,7 +57,7 @@ impl Names {
         self.texts.as_slice()[place].as_slice()
     }
 
-    /// The place of a name, if it is one of these.
+    /// Returns the index of `name`, if it is in the list.
     pub fn place(&self, name: &[u8]) -> Option<usize>
         ensures place { result ≡ place_of self.now name.now }
         ensures range { IfSome result (λ p. p < length self.now) }
@@ -64,7 +65,10 @@ impl Names {
         self.texts.get_index_of(name)
     }
 
-    /// Adds a name that is none of these, at the next place. If no memory is found nothing is added.
+    /// Adds `name` at the end. The caller must pass a name that is not in the list.
+    ///
+    /// # Errors
+    /// `OutOfMemory` if an allocation fails. The list is then unchanged.
     pub fn push(&mut self, name: Word) -> Result<(), OutOfMemory>
         requires { ¬ Contains self.old name }
         ensures ok { OnOk result (self.new ≡ self.old ++ name ∷ []) }
@@ -74,7 +78,7 @@ impl Names {
         Ok(())
     }
 
-    /// Takes the last name away, if there is one.
+    /// Removes the last name, if there is one.
     pub fn pop(&mut self)
         ensures { self.new ≡ take (length self.old - 1) self.old }
     {

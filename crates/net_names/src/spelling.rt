@@ -1,4 +1,4 @@
-//! The spelling of identifiers.
+//! Identifiers as text.
 
 ghost use Rattle.std.specs.Prelude.{◌≡◌, IfOk};
 ghost use Rattle.common_lines.specs.Words.{hex_text};
@@ -7,7 +7,10 @@ use common_lines::spelling::push_hex;
 use common_values::memory::OutOfMemory;
 use std::alloc::Global;
 
-/// An identifier in twelve hexadecimal digits, the last twelve if it has more.
+/// Returns the last twelve hexadecimal digits of `uid`.
+///
+/// # Errors
+/// `OutOfMemory` if an allocation fails.
 pub fn identifier(alloc: Global, uid: u64) -> Result<Vec<u8>, OutOfMemory>
     ensures { IfOk result (λ text. text.items ≡ hex_text 12 uid) }
 {

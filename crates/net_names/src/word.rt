@@ -5,7 +5,7 @@ ghost use Rattle.std.specs.List.{list_all};
 ghost use Rattle.std.specs.Char.{is_digit, digit_value};
 ghost use Rattle.net_names.specs.Words.{is_name, is_name_byte, is_uid, uid_value};
 
-/// Whether a word is a name: 1 to 16 bytes, the first a letter, the others letters, digits and `_`.
+/// Reports whether `word` is a name: a letter, then up to 15 letters, digits and `_`.
 pub fn is_name(word: &[u8]) -> bool
     ensures { result ≡ is_name word.now }
 {
@@ -27,7 +27,7 @@ fn is_name_byte(c: u8) -> bool
     c.is_ascii_alphanumeric() || c == b'_'
 }
 
-/// What a word says as an identifier, twelve hexadecimal digits in either case.
+/// Returns the value of `word` if it is an identifier: twelve hexadecimal digits in upper or lower case.
 #[tactic(auto, unfolding(crate::specs::Words::uid_value))]
 pub fn uid_of(word: &[u8]) -> Option<u64>
     ensures uid { MatchOption result (is_uid word.now ≡ false)

@@ -1,4 +1,4 @@
-//! The forms of lines: what the words of a line add to what stands before it.
+//! The forms of lines: what the words of a line add to the lines before it.
 
 ghost use Rattle.std.specs.Prelude.{◌≡◌, ◌≢◌, [], ◌∷◌, None, map, codes, IfOk, IfSome, IfNone};
 ghost use Rattle.std.specs.Option.{option_map};
@@ -31,7 +31,7 @@ use common_values::text::Word;
 use net_graph::wiring::{HostOn, LinkAt, MOST_HOSTS, SwitchAt};
 use std::alloc::Global;
 
-/// Why a line of a script adds nothing.
+/// The reason why a line of a script adds nothing.
 pub type ScriptStop = Stop<ScriptCause>;
 
 impl From<ScriptCause> for Stop<ScriptCause> {
@@ -42,7 +42,10 @@ impl From<ScriptCause> for Stop<ScriptCause> {
     }
 }
 
-/// Adds what a line of these words says.
+/// Adds what a line of `words` says.
+///
+/// # Errors
+/// `Fault` with the first error of the words, or `OutOfMemory`. The contract then says nothing about `draft`.
 pub fn read_form(draft: &mut Draft, alloc: Global, words: &[&[u8]]) -> Result<(), ScriptStop>
     ensures { IsStep result (AddsForm draft.old (map (λ w. w.now) words.now) draft.new)
         (IsFaultyForm draft.old (map (λ w. w.now) words.now)) }

@@ -21,9 +21,14 @@ use net_script::script::Script;
 use net_script::setting::{DEFAULT_BLOCKS, DEFAULT_EVENTS, DEFAULT_TICKS, Setting};
 use std::alloc::Global;
 
-/// The canonical text of a script: the first line; the settings that differ from their defaults, in
-/// the order `limit ticks`, `limit events`, `limit blocks`, `epoch`, `pace`, `routes any`; the
-/// switches, the links, the hosts and the commands, each in their order; and the last line.
+/// Returns the canonical text of `script`.
+///
+/// It has the first line; the settings that differ from their defaults, in the order `limit ticks`,
+/// `limit events`, `limit blocks`, `epoch`, `pace`, `routes any`; the switches, links, hosts and
+/// commands, each in order; and the last line.
+///
+/// # Errors
+/// `OutOfMemory` if an allocation fails.
 pub fn print(alloc: Global, script: &Script) -> Result<Vec<u8>, OutOfMemory>
     ensures canonical { IfOk result (λ text. text.items ≡ canonical_text script.now) }
     ensures text { IfOk result (λ text. IsText text.items script.now) }
@@ -234,8 +239,12 @@ fn push_time(text: &mut Vec<u8>, time: u32) -> Result<(), OutOfMemory>
     Ok(())
 }
 
-/// Appends a word, the name of a switch and numbers, and ends the line. If no memory is found nothing is
-/// said of the text.
+/// Appends `word`, the name of the switch `s` and `numbers`, and ends the line.
+///
+/// The caller must pass the index of a switch with a name.
+///
+/// # Errors
+/// `OutOfMemory` if an allocation fails. The contract then says nothing about `text`.
 pub fn push_at(
     text: &mut Vec<u8>,
     names: &Names,
@@ -266,8 +275,12 @@ fn push_numbers(text: &mut Vec<u8>, numbers: &[u32]) -> Result<(), OutOfMemory>
     Ok(())
 }
 
-/// Appends `send`, the name of the host that sends and that of the host to which it does, which may be
-/// the same, and ends the line. If no memory is found nothing is said of the text.
+/// Appends `send` and the names of the hosts `host` and `to`, and ends the line.
+///
+/// The caller must pass the indices of hosts with names; they can be the same.
+///
+/// # Errors
+/// `OutOfMemory` if an allocation fails. The contract then says nothing about `text`.
 pub fn push_send(text: &mut Vec<u8>, hosts: &Names, host: u16, to: u16) -> Result<(), OutOfMemory>
     requires host { host < length hosts.now }
     requires to { to < length hosts.now }
