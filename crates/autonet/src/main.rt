@@ -1,6 +1,6 @@
-//! The program: it reads its words and makes the one call of `commands` over the standard streams.
-//!
-//! It has no contract of its own: what it prints, and its status, are those of the call.
+//! autonet, commands: the program `autonet`.
+//! It reads its arguments and makes the one call of `commands` over the standard streams. Its
+//! output and exit status are those of this call; it has no contract of its own.
 #![tactic(auto)]
 
 use autonet_call::status::{Status, finish};

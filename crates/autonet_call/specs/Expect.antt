@@ -9,10 +9,10 @@ use Rattle.autonet_call.specs.Scripted.{IsSaidOf, gives_said, refuses_script}
 abbrev pub IsExpectedOf : List ℕ → List ℕ → Type 0
 IsExpectedOf text bytes = IsSaidOf IsExpectOf text bytes
 
--- it gives the text that is expected, with status 0
+-- `expect` gives the text that is expected, with status 0
 abbrev pub gives_expected : Gives
 gives_expected bytes status text = gives_said IsExpectOf bytes status text
 
--- the answer to `expect`
+-- the result of `expect`
 abbrev pub IsExpectAnswer : Streams → Streams → ℕ → Type 0
 IsExpectAnswer old new answer = IsAnswer input_limit gives_expected refuses_script old new answer

@@ -1,5 +1,5 @@
-//! What all commands that read an input have in common: the input is read, the command gives a text
-//! for it, the text is written, and the status is told.
+//! What all commands that read an input share: the input is read, the command gives a text for it, the text is
+//! written, and the status is reported.
 
 ghost use Rattle.std.specs.Prelude.{◌≡◌, ◌⊎◌, ◌≤◌, length, IfOk, IfErr};
 ghost use Rattle.common_call.specs.Inputs.{IsInput};
@@ -19,19 +19,22 @@ use std::alloc::Global;
 pub struct Given {
     /// The status with which the call ends once the text is written.
     pub status: Status,
-    /// The text for out.
+    /// The text for `out`.
     pub text: Vec<u8>,
 }
 
 /// A command that reads an input.
 pub trait Command {
-    /// For the bytes of an input, the status with which the command ends and the text that it writes.
+    /// The status and the text that the command gives for the bytes of an input.
     ghost gives: { Self → Gives };
 
-    /// For the bytes of an input, the status with which the command refuses them.
+    /// The status with which the command rejects the bytes of an input.
     ghost refuses: { Self → Refuses };
 
-    /// What the command gives for an input, or the status that says why there is nothing.
+    /// Returns what the command gives for an input of at most 2^28 bytes.
+    ///
+    /// # Errors
+    /// The status with which the command rejects the input, or `OutOfMemory`.
     fn given(&self, alloc: Global, bytes: &[u8]) -> Result<Given, Status>
         requires { length bytes.now ≤ input_limit }
         ensures given { IfOk result (λ given. gives self.now bytes.now given.status given.text.items) }
@@ -40,7 +43,7 @@ pub trait Command {
             refuses self.now bytes.now status ⊎ (status ≡ OutOfMemory)) };
 }
 
-// What the command gives for what the source gives, or why there is nothing.
+// Returns what the command gives for the input in the source, or why there is nothing.
 fn found<C: Command, S: Source>(command: &C, alloc: Global, source: &mut S) -> Result<Given, Status>
     ensures given { IfOk result (λ given. IsInput input_limit
         (λ bytes. C.gives command.now bytes given.status given.text.items)
@@ -53,7 +56,7 @@ fn found<C: Command, S: Source>(command: &C, alloc: Global, source: &mut S) -> R
     command.given(alloc, &bytes)
 }
 
-// Writes the text to out, or answers why there is none.
+// Writes the text to `out`, and returns the status, or why there is no text.
 fn status_of<C: Command, S: Source, O: Sink>(
     command: &C,
     alloc: Global,
@@ -73,13 +76,13 @@ fn status_of<C: Command, S: Source, O: Sink>(
     }
 }
 
-/// Answers a command: reads the input from the source, writes what the command gives for it to out,
-/// and tells the status. The answer is the number of a status, whose line goes to err.
+/// Runs a command: reads the input from `source`, writes the text that the command gives for it to `out`, and
+/// writes the line of a status to `err`. Returns the number of that status.
 ///
-/// If the source fails or has more bytes than the limit, if the command refuses the input, or if memory is
-/// wanting, out is left alone, and err gains the line of that status. If out fails, a front of the text was
-/// written, and the status is that of a write fault. If err fails, a front of the line was written, and the
-/// answer is 5, the number of a write fault. If a stream does not tell its bytes, nothing is said of them.
+/// If `source` fails or has more bytes than the limit, if the command rejects the input, or if memory runs out,
+/// `out` is unchanged, and `err` gains the line of that status. If `out` fails, a prefix of the text was written,
+/// and the status is `WriteFault`. If `err` fails, a prefix of the line was written, and the result is 5, the
+/// number of `WriteFault`. If the bytes of a stream are not known, nothing is said of them.
 pub fn answer<C: Command, S: Source, O: Sink, E: Sink>(
     command: &C,
     alloc: Global,

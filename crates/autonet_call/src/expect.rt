@@ -31,9 +31,9 @@ impl Command for Expect {
     }
 }
 
-/// Answers `expect`: reads a script from the source, and writes what is expected of its network to out. The
-/// answer is the number of a status, whose line goes to err. If the source fails or has more bytes than the
-/// limit, if it gives no script, or if memory is wanting, out is left alone.
+/// Runs `expect`: reads a script from `source`, and writes what is expected of its network to `out`. Returns the
+/// number of a status, whose line goes to `err`. If `source` fails or has more bytes than the limit, if it has no
+/// script, or if memory runs out, `out` is unchanged.
 pub fn autonet_expect<S: Source, O: Sink, E: Sink>(
     alloc: Global,
     source: &mut S,

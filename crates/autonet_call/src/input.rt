@@ -8,7 +8,7 @@ use common_call::input::Unread;
 use net_script::cause::ScriptCause;
 use net_script::reader::ReadRefusal;
 
-/// The most bytes of input.
+/// The most bytes of an input.
 pub const INPUT_LIMIT: usize = 1 << 28;
 
 impl From<Unread> for Status {

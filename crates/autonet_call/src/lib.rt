@@ -1,8 +1,10 @@
-//! What all commands that read an input, but `run`, have in common, and the first of them, `expect`.
+//! autonet, commands: exit statuses, what all commands that read an input share, and `expect`.
+//! `run` reads its input by code of its own.
 //!
-//! It stands on streams, on scripts, and on the text of what is expected of one. Its contract: the call of a command
-//! reads its source to the end, writes the text that the command gives for the bytes to out, and tells a status,
-//! whose number it answers; and each status says what came about. It never waits.
+//! It depends on `common_call` for streams and endings, on `net_script`, and on `expect_text`. Its contract: the
+//! call of a command reads its source to the end, writes the text that the command gives for the bytes to `out`,
+//! writes the line of a status to `err`, and returns the number of that status. Each status says what happened. No
+//! call waits.
 #![tactic(auto)]
 
 pub mod command;

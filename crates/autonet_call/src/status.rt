@@ -1,4 +1,4 @@
-//! How a call ends, and the line that says so.
+//! How a call ends, and the line that reports it.
 
 ghost use Rattle.std.specs.Fmt.{decimal};
 ghost use Rattle.std.specs.Prelude.{◌++◌, ◌≡◌, codes};
@@ -18,22 +18,22 @@ use outside::sink::Sink;
 /// How a call ended.
 #[derive(Drop)]
 pub enum Status {
-    /// The command was answered.
+    /// The command succeeded.
     Ok,
-    /// The words are those of no command.
+    /// The arguments are not a command.
     Usage,
-    /// The input is no script (for `check` no script with tables), or has more bytes than the limit.
+    /// The input is not a script (for `check` not a script with tables), or has more bytes than the limit.
     ScriptRefused {
         /// The first faulty line, from 1.
         line: u32,
-        /// The first cause in that line.
+        /// The reason for the first error in that line.
         cause: ScriptCause,
     },
     /// The source failed.
     ReadFault,
     /// A sink failed.
     WriteFault,
-    /// The tables of some component are refused.
+    /// The tables of some component are rejected.
     TablesRefused,
     /// The journal ends unsettled.
     Unsettled {
@@ -45,16 +45,16 @@ pub enum Status {
         /// The name of its life.
         name: Word,
     },
-    /// The text is no journal, or the journal is not legal.
+    /// The text is not a journal, or the journal is not legal.
     JournalRefused {
         /// The line, from 1.
         line: u32,
         /// What is wrong with it.
         cause: JournalCause,
     },
-    /// The journal ends full.
+    /// The journal ends because it is full.
     JournalFull,
-    /// No memory was found.
+    /// An allocation failed.
     OutOfMemory,
 }
 
@@ -67,7 +67,7 @@ impl From<OutOfMemory> for Status {
 }
 
 impl Status {
-    /// The number with which the program ends.
+    /// Returns the exit status of the program.
     pub fn code(&self) -> u8
         ensures { result ≡ code_of self.now }
     {
@@ -87,7 +87,7 @@ impl Status {
     }
 }
 
-// Tells a status, of whose line these are the parts.
+// Writes the line of a status, of which these are the parts.
 fn tell_line<E: Sink>(err: &mut E, status: &Status, parts: &[&[u8]]) -> u8
     requires { flat_map (λ part. part.now) parts.now ≡ line_of status.now }
     ensures { IsTold (E.seen err.old) (E.seen err.new) status.now result }
@@ -95,7 +95,8 @@ fn tell_line<E: Sink>(err: &mut E, status: &Status, parts: &[&[u8]]) -> u8
     tell(err, status.code(), parts)
 }
 
-// Tells a fault in a line of a text, from 1: the words before the line's number, that number and the cause.
+// Reports an error in a line of a text, counted from 1: the words before the line's number, that number and the
+// reason.
 fn tell_fault<E: Sink>(err: &mut E, status: &Status, head: &[u8], line: u32, cause: &str) -> u8
     requires { head.now ++ decimal line ++ codes ": " ++ cause.now ++ codes "\n" ≡ line_of status.now }
     ensures { IsTold (E.seen err.old) (E.seen err.new) status.now result }
@@ -105,8 +106,8 @@ fn tell_fault<E: Sink>(err: &mut E, status: &Status, head: &[u8], line: u32, cau
     tell_line(err, status, &[head, line, b": ", cause.as_bytes(), b"\n"])
 }
 
-/// Writes the line of a status to err, and answers the status' number, or that of a write fault
-/// if err did not take the whole line. In that case err failed, and a front of the line was written.
+/// Writes the line of `status` to `err`, and returns the number of the status. If `err` did not take the whole
+/// line, it failed and a prefix of the line was written; the result is then the number of `WriteFault`.
 pub fn finish<E: Sink>(err: &mut E, status: Status) -> u8
     ensures { IsTold (E.seen err.old) (E.seen err.new) status result }
 {

@@ -1,10 +1,10 @@
-//! The words of a call.
+//! The arguments of a call.
 
 ghost use Rattle.std.specs.Prelude.{◌≡◌, ◌↔◌, [], ◌∷◌, IsTrue};
 
 use common_values::text::Word;
 
-/// Whether the words are one word, of these bytes.
+/// Reports whether the arguments are one argument, with these bytes.
 pub fn is_word(words: &[Word], bytes: &[u8]) -> bool
     ensures { IsTrue result ↔ (words.now ≡ bytes.now ∷ []) }
 {

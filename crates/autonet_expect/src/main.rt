@@ -1,6 +1,6 @@
-//! The program of `expect` alone, which is proved and built long before that of all commands.
-//!
-//! It has no contract of its own: what it prints, and its status, are those of the call.
+//! autonet, commands: a small program that runs only `expect`.
+//! It is proved and built long before the program with all commands. Its output and exit status are
+//! those of the call in `autonet_call`; it has no contract of its own.
 #![tactic(auto)]
 
 use autonet_call::expect::autonet_expect;

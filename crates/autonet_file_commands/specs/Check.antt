@@ -1,4 +1,4 @@
--- The command `check`: what comes of checking the routing tables that stand after a script.
+-- The command `check`: the result of checking the routing tables that follow a script.
 
 use Rattle.std.specs.Prelude.{◌≡◌, ℕ, List, Bool, true, false}
 use Rattle.net_script.specs.Scripts.{ScriptOf}
@@ -9,7 +9,7 @@ use Rattle.autonet_call.specs.declared.status.Status.{Status}
 use Rattle.autonet_call.specs.declared.status.Status.TheVariants.{Ok, TablesRefused}
 use Rattle.autonet_call.specs.Answer.{Gives, IfRefused, Refuses}
 
--- the bytes are the text of a script with tables, of which this comes when they are checked
+-- `bytes` is the text of a script with tables, and `text` is the result of checking them
 pub record IsJudgedOf (passed : Bool) (text bytes : List ℕ) : Type 0 where
   pub script : ScriptOf
   pub tables : TablesOf
@@ -21,14 +21,14 @@ abbrev pub status_of : Bool → Status
 status_of true = Ok
 status_of false = TablesRefused
 
--- it gives the text of the judgement, with its status
+-- `check` gives the text of the result, with its status
 abbrev pub gives_judged : Gives
 gives_judged bytes status text = (passed : Bool) × (status ≡ status_of passed) × IsJudgedOf passed text bytes
 
--- it refuses what is no script with tables by its first fault
+-- bytes that are not a script with tables are rejected for their first error
 abbrev pub refuses_tables : Refuses
 refuses_tables bytes status = IfRefused status (IsFaultWith bytes)
 
--- the tables pass, and this is the text of that
+-- the tables pass, and the text says so
 abbrev pub gives_passing : Gives
 gives_passing bytes status text = (status ≡ Ok) × IsJudgedOf true text bytes

@@ -1,4 +1,4 @@
--- What commands give for a text of which the script is known, and its tables.
+-- What commands give for a text whose script is known, and its tables.
 
 use Rattle.std.specs.Prelude.{◌≡◌, ℕ, Bool}
 use Rattle.net_script.specs.Scripts.{ScriptOf}
@@ -15,15 +15,15 @@ use Rattle.autonet_file_commands.specs.Check.{status_of}
 abbrev pub gives_expected_of : ScriptOf → Gives
 gives_expected_of script bytes status text = (status ≡ Ok) × IsExpectOf script text
 
--- `flood`: how broadcasts go in its network, with status 0
+-- `flood`: how broadcasts spread in the script's network, with status 0
 abbrev pub gives_flooded_of : ScriptOf → Gives
 gives_flooded_of script bytes status text = (status ≡ Ok) × IsFloodOf script text
 
--- `flow B`: what becomes of its packets if each channel holds so many, with status 0
+-- `flow B`: what happens to the script's packets if each channel holds B packets, with status 0
 abbrev pub gives_flow_of : ScriptOf → ℕ → Gives
 gives_flow_of script room bytes status text = (status ≡ Ok) × IsFlowOf script room text
 
--- `check`: what comes of checking the tables of the script
+-- `check`: the result of checking the tables of the script
 abbrev pub gives_judged_of : ScriptOf → TablesOf → Gives
 gives_judged_of script tables bytes status text =
     (passed : Bool) × (status ≡ status_of passed) × IsJudged script tables passed text

@@ -1,4 +1,4 @@
-//! The command `check`: the judgement of a script with tables.
+//! The command `check`: checks a script with tables.
 
 ghost use Rattle.std.specs.Prelude.{◌≡◌, Bool, IfOk};
 ghost use Rattle.table_script.specs.Tables.{AreTablesOf};
@@ -18,12 +18,12 @@ use std::alloc::Global;
 use table_script::table_reader::read_with_tables;
 use table_script::tables::Tables;
 
-// The command `check`: for a script with routing tables, the ranks of the channels and `ok`, or the
-// line that says why the tables are refused.
+// The command `check`: for a script with routing tables, the ranks of the channels and `ok`, or the line that says
+// why the tables are rejected.
 #[derive(Clone, Copy)]
 struct Check;
 
-// The status of tables that pass, and of those that do not.
+// Returns the status of tables that pass, or do not.
 fn status_of(passed: bool) -> Status
     ensures { result ≡ status_of passed }
 {
@@ -34,7 +34,7 @@ fn status_of(passed: bool) -> Status
     }
 }
 
-// What comes of checking the tables of a script, with its status.
+// Returns the result of checking the tables of a script, with its status.
 fn judged(alloc: Global, script: Script, tables: Tables) -> Result<Given, OutOfMemory>
     requires { AreTablesOf script.wires tables }
     ensures { IfOk result (λ given. (passed : Bool) × (given.status ≡ status_of passed)
@@ -58,9 +58,9 @@ impl Command for Check {
     }
 }
 
-/// Answers `check`: reads a script with routing tables from the source, and writes their judgement to out.
-/// The answer is the number of a status, whose line goes to err. If the source fails or has more bytes than
-/// the limit, if it gives no script with tables, or if memory is wanting, out is left alone.
+/// Runs `check`: reads a script with routing tables from `source`, and writes the result of the check to `out`.
+/// Returns the number of a status, whose line goes to `err`. If `source` fails or has more bytes than the limit, if
+/// it has no script with tables, or if memory runs out, `out` is unchanged.
 pub fn autonet_check<S: Source, O: Sink, E: Sink>(
     alloc: Global,
     source: &mut S,

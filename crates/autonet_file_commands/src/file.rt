@@ -1,4 +1,4 @@
-//! Which of these commands words name, and the answer to it.
+//! Which of these commands the arguments name, and its call.
 
 ghost use Rattle.std.specs.Prelude.{MatchOption};
 ghost use Rattle.autonet_call.specs.Answer.{streams};
@@ -16,7 +16,7 @@ use outside::sink::Sink;
 use outside::source::Source;
 use std::alloc::Global;
 
-/// A command that needs a network file alone, or with its tables.
+/// A command that needs only a network file, or a network file with its tables.
 #[derive(Clone, Copy, Drop)]
 pub enum FileCommand {
     /// `expect`.
@@ -29,7 +29,7 @@ pub enum FileCommand {
     Flow(Room),
 }
 
-/// The command that words name, if it is one of these.
+/// Returns the command that the arguments name, if it is one of these.
 pub fn command_of(words: &[Word]) -> Option<FileCommand>
     ensures { MatchOption result (AreOthers words.now) (λ command. AreWordsOf command words.now) }
 {
@@ -46,8 +46,8 @@ pub fn command_of(words: &[Word]) -> Option<FileCommand>
     Some(FileCommand::Flow(room))
 }
 
-/// Answers one of these commands. The answer is the number of a status, whose line goes to err. If there is
-/// no text to be written, out is left alone.
+/// Runs one of these commands. Returns the number of a status, whose line goes to `err`. If there is no text to
+/// write, `out` is unchanged.
 pub fn answer_file<S: Source, O: Sink, E: Sink>(
     command: FileCommand,
     alloc: Global,

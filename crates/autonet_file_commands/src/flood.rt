@@ -13,7 +13,7 @@ use outside::sink::Sink;
 use outside::source::Source;
 use std::alloc::Global;
 
-// The command `flood`: how a broadcast from each switch of a script's network goes.
+// The command `flood`: how a broadcast from each switch of a script's network spreads.
 #[derive(Clone, Copy)]
 struct Flood;
 
@@ -32,9 +32,9 @@ impl Command for Flood {
     }
 }
 
-/// Answers `flood`: reads a script from the source, and writes how broadcasts go in its network to out. The
-/// answer is the number of a status, whose line goes to err. If the source fails or has more bytes than the
-/// limit, if it gives no script, or if memory is wanting, out is left alone.
+/// Runs `flood`: reads a script from `source`, and writes how broadcasts spread in its network to `out`. Returns
+/// the number of a status, whose line goes to `err`. If `source` fails or has more bytes than the limit, if it has
+/// no script, or if memory runs out, `out` is unchanged.
 pub fn autonet_flood<S: Source, O: Sink, E: Sink>(
     alloc: Global,
     source: &mut S,

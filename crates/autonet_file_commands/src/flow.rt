@@ -14,7 +14,7 @@ use outside::sink::Sink;
 use outside::source::Source;
 use std::alloc::Global;
 
-// The command `flow B`: what becomes of the packets that a script sends if each channel holds so many.
+// The command `flow B`: what happens to the packets that a script sends if each channel holds B packets.
 #[derive(Clone, Copy)]
 struct Flow {
     // B.
@@ -36,10 +36,9 @@ impl Command for Flow {
     }
 }
 
-/// Answers `flow B`: reads a script from the source, and writes to out what becomes of the packets that it
-/// sends if each channel holds so many. The answer is the number of a status, whose line goes to err. If the
-/// source fails or has more bytes than the limit, if it gives no script, or if memory is wanting, out is left
-/// alone.
+/// Runs `flow B`: reads a script from `source`, and writes to `out` what happens to the packets that it sends if
+/// each channel holds `room.packets` packets. Returns the number of a status, whose line goes to `err`. If `source`
+/// fails or has more bytes than the limit, if it has no script, or if memory runs out, `out` is unchanged.
 pub fn autonet_flow<S: Source, O: Sink, E: Sink>(
     alloc: Global,
     room: Room,

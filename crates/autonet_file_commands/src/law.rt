@@ -1,4 +1,4 @@
-//! What follows from the answers of these commands to a source that tells its bytes.
+//! Theorems about the calls of these commands for a source whose bytes are known.
 
 ghost use Rattle.std.specs.Prelude.{◌≡◌, ◌≤◌, ◌++◌, ◌∷◌, [], ℕ, length, List, Some};
 ghost use Rattle.net_script.specs.Scripts.{ScriptOf};
@@ -12,20 +12,20 @@ ghost use Rattle.autonet_call.specs.Expect.{IsExpectedOf};
 ghost use Rattle.autonet_file_commands.specs.Answers.{IsCheckAnswer, IsFloodAnswer, IsFlowAnswer};
 ghost use Rattle.autonet_call.specs.Expect.{IsExpectAnswer};
 
-/// A source that tells its bytes has a network file whose last line is ended by a line feed (10), and
-/// after it all that is expected of it, both together within the limit. Then `check` refuses neither
-/// the script nor its tables: out gains the text of tables that pass, a front of it if out fails, or
-/// nothing if the source fails or memory is wanting. Of a source that does not tell its bytes, as
-/// standard input, this says nothing.
+/// `check` accepts what `expect` prints. Suppose that a source whose bytes are known has a network file whose last
+/// line ends with a line feed (10), and after it all that is expected of the network, both together within the
+/// limit. Then `check` rejects neither the script nor its tables: `out` gains the text of tables that pass, a
+/// prefix of it if `out` fails, or nothing if the source fails or memory runs out. The theorem says nothing of a
+/// source whose bytes are not known, such as standard input.
 pub fn what_is_expected_passes_check()
     ensures { (answer : ℕ) (bytes text : List ℕ) (old new : Streams) → IsExpectedOf text (bytes ++ 10 ∷ [])
         → old.source.told ≡ Some (bytes ++ 10 ∷ text) → length (bytes ++ 10 ∷ text) ≤ input_limit
         → IsCheckAnswer old new answer → IsAnswer input_limit gives_passing refuses_nothing old new answer }
 {}
 
-/// A source that tells its bytes has the text of a script, for `check` with tables, within the limit. Then
-/// the command does not refuse it: out gains the text that the definition gives for it, a front of it if out
-/// fails, or nothing if the source fails or memory is wanting; and with the text comes its own status.
+/// Suppose that a source whose bytes are known has the text of a script, for `check` with tables, within the limit.
+/// Then the command does not reject it: `out` gains the text that the definition gives for it, a prefix of it if
+/// `out` fails, or nothing if the source fails or memory runs out; and with the text comes its own status.
 pub fn a_text_is_answered()
     ensures expect { (answer : ℕ) (bytes : List ℕ) (script : ScriptOf) (old new : Streams)
         → IsText bytes script → old.source.told ≡ Some bytes → length bytes ≤ input_limit

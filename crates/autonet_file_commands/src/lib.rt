@@ -1,7 +1,8 @@
-//! The commands that need a network file alone, or with its tables: `expect`, `check`, `flood` and `flow B`.
+//! autonet, commands: `expect`, `check`, `flood` and `flow B`.
+//! These commands need only a network file, or a network file with its tables.
 //!
-//! It stands on `autonet_call`, and on the text of each command. Its contract is that of each call: what its status
-//! means, what the source then has left, and what each sink gained. No call waits.
+//! It depends on `autonet_call`, and on the crates that print the text of each command. Its contract is that of
+//! each call: what its status means, what the source then has left, and what each sink gained. No call waits.
 #![tactic(auto)]
 
 pub mod check;

@@ -1,8 +1,8 @@
-//! What a channel of `flow B` holds.
+//! The capacity of a channel for `flow B`.
 
 ghost use Rattle.std.specs.Prelude.{◌≤◌};
 
-/// How many packets a channel holds.
+/// The number of packets that a channel holds.
 #[derive(Clone, Copy, Drop)]
 pub struct Room {
     /// At least 1.

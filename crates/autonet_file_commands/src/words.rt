@@ -1,4 +1,4 @@
-//! The words `flow B`.
+//! The arguments `flow B`.
 
 ghost use Rattle.std.specs.Prelude.{◌≡◌, ◌≢◌, ℕ, List, [], ◌∷◌, MatchOption};
 ghost use Rattle.autonet_file_commands.specs.Flow.{AreFlowWords};
@@ -7,7 +7,7 @@ use crate::room::Room;
 use common_lines::word::number_between;
 use common_values::text::Word;
 
-// The second of two words, of which the first has these bytes.
+// Returns the second of two arguments, if the first has these bytes.
 fn word_after<'a>(words: &'a [Word], bytes: &[u8]) -> Option<&'a Word>
     ensures { MatchOption result ((word : List ℕ) → words.now ≢ bytes.now ∷ word ∷ [])
         (λ word. words.now ≡ bytes.now ∷ word.now ∷ []) }
@@ -21,7 +21,7 @@ fn word_after<'a>(words: &'a [Word], bytes: &[u8]) -> Option<&'a Word>
     None
 }
 
-/// B, if the words are `flow B` with B from 1 to 16.
+/// Returns B, if the arguments are `flow B` with B from 1 to 16.
 pub fn room_of(words: &[Word]) -> Option<Room>
     ensures { MatchOption result ((room : ℕ) → ¬ AreFlowWords words.now room)
         (λ room. AreFlowWords words.now room.packets) }

@@ -1,4 +1,4 @@
--- What commands give for a text of which the script is known, and the journal after it.
+-- What commands give for a text whose script is known, and the journal after it.
 
 use Rattle.std.specs.Prelude.{◌≡◌, ℕ, List}
 use Rattle.an_base.specs.declared.event.Event.{Event}

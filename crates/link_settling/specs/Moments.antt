@@ -57,7 +57,7 @@ pub record FarClocks (old new : EndView) : Type 0 where
   }
   pub stays : Stays old new
 
--- this end handles a reply of the far end; a reply to its last probe can then no longer be under way
+-- this end handles a reply of the far end; if it replies to the last probe, it is possibly no longer under way
 pub record Hears (own far : EndId) (old new : EndView) : Type 0 where
   pub fresh : old.has_clocked ≡ true
   pub nonce : ℕ
@@ -72,7 +72,7 @@ pub record FarHears (own : EndId) (old new : EndView) : Type 0 where
   pub is : new ≡ record old { there = Replied own nonce ∷ old.there; probe = new.probe; reply = new.reply }
   pub stays : Stays old new
 
--- the far end handles the last probe of this one, which can then no longer be under way; if it speaks it replies
+-- the far end handles the last probe of this one, which is possibly no longer under way; if it speaks it replies
 pub record Answers (far : EndId) (old new : EndView) : Type 0 where
   pub fresh : old.far_has_clocked ≡ true
   pub is : new ≡ record old { probe = new.probe; reply = new.reply }

@@ -77,7 +77,8 @@ last_disturbance test script history = since (disturbs test) 0 (begun script) hi
 abbrev pub last_loss : ScriptOf → List Event → ℕ
 last_loss script history = since loses_as_told 0 (begun script) history
 
--- No frame and no copy was lost because space ran out. Noise can have been lost: only a command puts it on wires.
+-- No frame and no copy was lost because space ran out. Noise can have been lost: it is all
+-- that a command puts on wires.
 abbrev pub NoneForRoom : ScriptOf → List Event → Type 0
 NoneForRoom script history = (before later : List Event) (event : Event) → history ≡ before ++ event ∷ later
     → is_of_script event ≡ false → loses is_for_room (world_after script before) event ≡ false

@@ -65,8 +65,8 @@ pub record AgreesAt (script : ScriptOf) (before later : List Event) : Type 0 whe
   pub stay : ports_shown (world_after script (before ++ later)).fabric
       ≡ ports_shown (world_after script before).fabric
 
--- At each point in time of a history that is more than 512 ticks after `last_told`, the network agrees for good.
--- 512 is above the 259 ticks after which the ports are final.
+-- `AgreesAt` holds at each point in time of a history that is more than 512 ticks after `last_told`. 512 is above
+-- the 259 ticks after which the ports are final.
 abbrev pub PortsSettle : ScriptOf → List Event → Type 0
 PortsSettle script history = (before later : List Event) → history ≡ before ++ later
     → last_told script history + 512 < (world_after script before).fabric.tick

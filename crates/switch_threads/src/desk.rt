@@ -134,7 +134,7 @@ impl Tale {
 /// What a worker passes on when it asks, and gets back, and space for a note.
 #[derive(Drop)]
 pub(crate) struct Papers {
-    /// The frame that the worker's next work is written on.
+    /// The letter, on which the book writes the next work of the worker.
     pub letter: Box<Letter>,
     /// What the worker puts, until it has something else to put. The note in it is what the switch shows.
     pub parcel: Box<Parcel>,

@@ -1,4 +1,4 @@
-//! Answers over streams in memory: however much one read gives, and where a stream fails.
+//! Calls over streams in memory: however much one read gives, and where a stream fails.
 
 use crate::calls::{Streams, answer};
 use std::alloc::Global;
@@ -14,7 +14,7 @@ const TWO_EXPECTED: &[u8] =
 const USAGE: &[u8] =
     b"usage: autonet expect, run, replay, check, flow B, flood, names or gen SEED N\n";
 
-// The answer to a word is this status, and this is what out and err have then.
+// Asserts the status of a call with one argument, and what `out` and `err` have then.
 fn is_answered<R: Threads + Wait + Sync + Abort>(
     rt: &R,
     alloc: Global,

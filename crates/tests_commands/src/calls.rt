@@ -19,14 +19,18 @@ pub const TWO: &[u8] =
 #[derive(Drop)]
 pub struct Streams {
     source: MemorySource,
-    /// What is answered.
+    /// The output of the call.
     pub out: MemorySink,
     /// The line of the status.
     pub err: MemorySink,
 }
 
 impl Streams {
-    /// Streams of which one read gives so many bytes at most, these reads fail, and out and err have so much room.
+    /// Creates streams of which one read gives at most `cut` bytes, the reads `failing` fail, and `out` and `err`
+    /// have this much space.
+    ///
+    /// # Errors
+    /// A failed allocation.
     pub fn new(
         alloc: Global,
         cut: usize,
@@ -44,7 +48,7 @@ impl Streams {
     }
 }
 
-// The words of a call.
+// Returns the arguments of a call.
 fn words_of(alloc: Global, words: &[&[u8]]) -> Result<Vec<Word>, Fail> {
     let mut list = Vec::new(alloc);
     for word in words {
@@ -53,7 +57,10 @@ fn words_of(alloc: Global, words: &[&[u8]]) -> Result<Vec<Word>, Fail> {
     Ok(list)
 }
 
-/// The status of a call with these words.
+/// Makes a call with these arguments, and returns its status.
+///
+/// # Errors
+/// A failed allocation of the arguments.
 pub fn answer<R: Threads + Wait + Sync, G: Gate>(
     rt: &R,
     alloc: Global,

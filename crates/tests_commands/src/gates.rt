@@ -12,10 +12,10 @@ use std::test::Fail;
 use std::thread::{Threads, yield_now};
 use switch_threads::Gate;
 
-// How often one that waits looks before it notes that it waited in vain.
+// How often a waiting worker checks before it notes that it waited in vain.
 const LOOKS: u32 = 100_000_000;
 
-// How many turns a worker has begun, and ended.
+// The number of turns that a worker has begun, and ended.
 #[derive(Drop)]
 struct Turns {
     begun: AtomicU64,
@@ -31,7 +31,7 @@ impl Turns {
     }
 }
 
-// What two workers have done, how many waits were in vain, and how many calls were not numbered in turn.
+// What two workers have done, the number of waits that were in vain, and of calls that were not numbered in turn.
 #[derive(Drop)]
 struct Watch {
     a: Turns,
@@ -50,19 +50,19 @@ impl Watch {
         }
     }
 
-    // The turns of a worker.
+    // Returns the turns of a worker.
     fn of(&self, worker: u8) -> &Turns {
         if worker == 1 { &self.a } else { &self.b }
     }
 
-    // A worker begins its turn of this number, or ends it, and that is how many it has begun, or ended.
+    // Notes that a worker begins or ends its turn `turn`, and checks that this is how many it has begun or ended.
     fn note(&self, count: &AtomicU64, turn: u64) {
         if count.fetch_add(1, Ordering::SeqCst).wrapping_add(1) != turn {
             self.wrong.fetch_add(1, Ordering::SeqCst);
         }
     }
 
-    // Waits until a count is as high.
+    // Waits until a count is at least `least`.
     fn wait(&self, count: &AtomicU64, least: u64) {
         for _ in 0..LOOKS {
             if count.load(Ordering::SeqCst) >= least {
@@ -73,7 +73,8 @@ impl Watch {
         self.vain.fetch_add(1, Ordering::SeqCst);
     }
 
-    // Whether each wait ended, turns were numbered from 1 on, and each worker made as many as its events need.
+    // Reports whether each wait ended, turns were numbered from 1 on, and each worker made as many as its events
+    // need.
     fn is_good(&self, journal: &Journal) -> bool {
         self.vain.load(Ordering::SeqCst) == 0
             && self.wrong.load(Ordering::SeqCst) == 0
@@ -82,7 +83,7 @@ impl Watch {
     }
 }
 
-// Whether an event is one that the worker of a switch makes.
+// Reports whether an event is one that the worker of a switch makes.
 fn is_of(event: &Event, place: u8) -> bool {
     match event {
         Event::Clock { s } | Event::Take { s, .. } | Event::Handle { s } | Event::Load { s } => {
@@ -92,7 +93,7 @@ fn is_of(event: &Event, place: u8) -> bool {
     }
 }
 
-// How many such events there are of a switch.
+// Returns the number of such events of a switch.
 fn events_of(journal: &Journal, place: u8) -> u64 {
     let events = journal.as_slice().iter();
     events.filter(|event| is_of(event, place)).count() as u64
@@ -101,9 +102,9 @@ fn events_of(journal: &Journal, place: u8) -> u64 {
 // What the first turn of a worker waits for.
 #[derive(Clone, Copy)]
 enum First {
-    // For the first turn of the other.
+    // For the first turn of the other worker.
     Together,
-    // That of worker 1 for the end of the third one of worker 2.
+    // For the end of the third turn of worker 2, if it is worker 1.
     Later,
 }
 
@@ -115,7 +116,7 @@ struct Waits {
 }
 
 impl Waits {
-    // Those of two workers that have done nothing yet.
+    // Creates the waits of two workers that have done nothing yet.
     fn new(first: First) -> Waits {
         Waits {
             watch: Watch::new(),
@@ -123,7 +124,7 @@ impl Waits {
         }
     }
 
-    // The wait of a worker before its first turn.
+    // Makes a worker wait before its first turn.
     fn wait(&self, worker: u8) {
         match self.first {
             First::Together => {
@@ -156,7 +157,7 @@ impl Gate for Waits {
     }
 }
 
-// What `run` writes for two switches, with its status 0.
+// Returns what `run` writes for two switches, if its status is 0.
 fn ran<R: Threads + Wait + Sync>(rt: &R, alloc: Global, gate: &Waits) -> Result<Streams, Fail> {
     let mut streams = Streams::new(alloc, 1_000, &[], 1_000_000, 1_000)?;
     match answer(rt, alloc, gate, &[b"run"], &mut streams)? {
@@ -165,7 +166,7 @@ fn ran<R: Threads + Wait + Sync>(rt: &R, alloc: Global, gate: &Waits) -> Result<
     }
 }
 
-// The journal of two switches at the beginning of these bytes.
+// Returns the journal of two switches at the beginning of these bytes.
 fn journal_of(alloc: Global, script: &Script, bytes: &[u8]) -> Result<Journal, Fail> {
     if bytes.len() > 1_000_000 {
         return Err("long".into());
@@ -176,7 +177,7 @@ fn journal_of(alloc: Global, script: &Script, bytes: &[u8]) -> Result<Journal, F
     }
 }
 
-// Whether a watch finds good the journal at the beginning of what `run` wrote.
+// Reports whether a watch accepts the journal at the beginning of what `run` wrote.
 fn is_good(alloc: Global, watch: &Watch, bytes: &[u8]) -> Result<bool, Fail> {
     let script = read(alloc, TWO)?;
     Ok(watch.is_good(&journal_of(alloc, &script, bytes)?))
@@ -190,7 +191,7 @@ fn two_workers_make_their_first_turns_together(rt: HostRuntime) -> Result<(), Fa
     Ok(())
 }
 
-// What was written begins so.
+// Asserts that the output begins with `first`.
 fn begins(rt: &impl Abort, bytes: &[u8], first: &[u8]) {
     assert_eq!(rt; bytes.get(..first.len()), Some(first));
 }

@@ -1,8 +1,7 @@
-//! Tests of what no clause sees in the calls that answer the program's words, and in a report: that they
-//! answer if memory is ample, that streams may give and take as they like, and that the workers of `run`
-//! go beside each other.
-//!
-//! The crate has nothing but tests, so that a gate proves `commands` and `report` once, without tests.
+//! tests: tests of the commands of `autonet` and of its reports, for what no contract shows.
+//! They show that calls return if memory suffices, that streams can give and take as they like, and that the
+//! workers of `run` run in parallel. The crate has nothing but tests, so that a gate proves `commands` and `report`
+//! once, without tests.
 #![tactic(auto)]
 
 #[cfg(test)]

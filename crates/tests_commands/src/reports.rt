@@ -19,7 +19,7 @@ const ALONE: &[u8] = b"autonet 1\nlimit events 100\nlimit blocks 1\nswitch A 000
 const REPORT: &[u8] = b"report 1\n2 A join 1\n2 A finish 1 root A members 1\n\
     3 A load 1 number 1\nrow A 0\nend settled tick 0 events 3\n";
 
-// A switch alone.
+// Returns a script with one switch.
 fn alone(alloc: Global) -> Result<Script, Fail> {
     match read(alloc, ALONE) {
         Ok(script) => Ok(script),
@@ -27,7 +27,7 @@ fn alone(alloc: Global) -> Result<Script, Fail> {
     }
 }
 
-// The events of its history.
+// Returns the events of its history.
 fn history(alloc: Global) -> Result<Journal, Fail> {
     let mut journal = Journal::new(alloc);
     for event in [
@@ -40,7 +40,7 @@ fn history(alloc: Global) -> Result<Journal, Fail> {
     Ok(journal)
 }
 
-// The report is written as far as a sink with so much room takes it.
+// Asserts that the report is written as far as a sink with this much space takes it.
 fn is_written<R: Abort + AllocGlobal>(
     rt: &R,
     script: &Script,
@@ -56,7 +56,8 @@ fn is_written<R: Abort + AllocGlobal>(
     Ok(())
 }
 
-// The report is that of the journal, and is written so to sinks with room for all and for less.
+// Asserts that the report is that of the journal, and is so written to sinks with space for all and
+// for less.
 fn is_reported<R: Abort + AllocGlobal>(
     rt: &R,
     script: &Script,

@@ -6,7 +6,7 @@ use std::test::Fail;
 use updown::distance::Distances;
 use updown::reach::distances;
 
-// The distances of some lives to life 3.
+// Asserts the distances of some lives to life 3.
 fn are_right(rt: &impl Abort, reach: &Distances) {
     assert!(rt; reach.up(life_of(2)) == Some(2));
     assert!(rt; reach.down(life_of(2)).is_none());

@@ -1,4 +1,4 @@
-//! A packet over rows that are at hand (`flow_channels`).
+//! A packet over rows in memory (`flow_channels`).
 
 ghost use Rattle.std.specs.Prelude.{◌≡◌, ◌<◌, ◌∷◌, [], IfOk, List, length};
 ghost use Rattle.an_base.specs.Rows.{RowOf};
@@ -22,7 +22,7 @@ use std::process::Abort;
 use std::test::Fail;
 use topo_graph::graph::Graph;
 
-// The link at port 1 to port 1 of this life.
+// Returns the link at port 1 to port 1 of this life.
 fn one_link(uid: u64) -> Links
     requires { uid < 100 }
 {
@@ -31,14 +31,14 @@ fn one_link(uid: u64) -> Links
     links
 }
 
-// Lives 1 and 2 with a link.
+// Returns lives 1 and 2 with a link.
 fn two(alloc: Global) -> Result<Graph, Fail> {
     let mut entries = Entries::of(alloc, entry(1, 0, 1, 0, one_link(2)))?;
     entries.push(entry(2, 1, 1, 1, one_link(1)))?;
     Ok(Graph::of(alloc, &entries)?)
 }
 
-// Their numbers.
+// Returns the numbers of these lives.
 fn numbers_of(alloc: Global) -> Result<Numbers, Fail>
     ensures { IfOk result (λ numbers. numbers ≡ 1 ∷ 2 ∷ []) }
 {
@@ -48,7 +48,7 @@ fn numbers_of(alloc: Global) -> Result<Numbers, Fail>
     Ok(Numbers::new(items))
 }
 
-// The row of what goes from a switch to the other one, by port 1.
+// Returns the row for packets from one switch to the other, by port 1.
 fn row(at: u8, to: u8) -> Row {
     Row {
         at,
@@ -58,7 +58,7 @@ fn row(at: u8, to: u8) -> Row {
     }
 }
 
-// Judges rows that pass.
+// Checks rows that pass.
 fn pass(alloc: Global, graph: &Graph, numbers: &Numbers, rows: &[Row]) -> Result<Ranks, Fail>
     requires { length numbers.now ≡ length graph.now }
     ensures { IfOk result (Passes graph.now numbers.now rows.now) }
@@ -69,8 +69,8 @@ fn pass(alloc: Global, graph: &Graph, numbers: &Numbers, rows: &[Row]) -> Result
     }
 }
 
-// A flow over exits, those of the rows, with one place a channel, in which a packet entered at number 1 for
-// number 2.
+// Returns a flow over the exits of the rows, with space for one packet in each channel, in which a packet entered
+// at number 1 for number 2.
 fn entered(
     alloc: Global,
     graph: &Graph,
@@ -90,7 +90,7 @@ fn entered(
     Ok(flow)
 }
 
-// Such a flow over rows that pass.
+// Returns such a flow over rows that pass.
 fn over(alloc: Global, graph: &Graph, numbers: &Numbers, rows: &[Row]) -> Result<Flow, Fail>
     requires same { length numbers.now ≡ length graph.now }
     requires numbers { numbers.now ≡ 1 ∷ 2 ∷ [] }
@@ -100,7 +100,7 @@ fn over(alloc: Global, graph: &Graph, numbers: &Numbers, rows: &[Row]) -> Result
     entered(alloc, graph, numbers, rows, exits)
 }
 
-// The packet goes out by port 1, and arrives.
+// Asserts that the packet goes out by port 1, and arrives.
 fn arrives(rt: &impl Abort, flow: &mut Flow) {
     let out = flow.turn();
     assert!(rt;

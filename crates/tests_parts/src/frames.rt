@@ -1,4 +1,4 @@
-//! The greatest frame as bytes (`frame_codec`).
+//! The largest frame as bytes (`frame_codec`).
 
 use frame_codec::reading::decode;
 use frame_codec::writing::encode;
@@ -7,13 +7,13 @@ use std::alloc::{AllocError, Global};
 use std::process::Abort;
 use std::test::Fail;
 
-// What stands before the body in a frame of port 1 of life 1.1 to port 1 of life 2.1.
+// What is before the body in a frame from port 1 of life 1.1 to port 1 of life 2.1.
 const HEAD: [u8; 35] = [
     1, 0, 0, 0, 0, 0, 0, 0, 2, 0, 0, 0, 0, 0, 1, 0, 0, 0, 1, 1, 0, 0, 0, 0, 0, 2, 0, 0, 0, 1, 1, 0,
     0, 0, 1,
 ];
 
-// Bytes are read as a frame that is written as these bytes.
+// Asserts that these bytes decode to a frame that encodes to the same bytes.
 fn is_read<R: Abort + AllocGlobal>(rt: &R, bytes: &[u8], out: &mut FrameBuf) -> Result<(), Fail> {
     match decode(rt.alloc(), bytes) {
         Ok(frame) => {
@@ -33,7 +33,7 @@ fn push_head(bytes: &mut Vec<u8>, uid: u8) -> Result<(), AllocError> {
     ])
 }
 
-// The whole entry.
+// Adds the whole entry.
 fn push_entry(bytes: &mut Vec<u8>, uid: u8) -> Result<(), AllocError> {
     push_head(bytes, uid)?;
     'links: for port in 1..13u8 {
@@ -42,7 +42,7 @@ fn push_entry(bytes: &mut Vec<u8>, uid: u8) -> Result<(), AllocError> {
     Ok(())
 }
 
-// So many entries.
+// Adds `entries` entries.
 fn push_entries(bytes: &mut Vec<u8>, entries: u8) -> Result<(), AllocError> {
     'entries: for uid in 0..entries {
         push_entry(bytes, uid)?;
@@ -50,7 +50,7 @@ fn push_entries(bytes: &mut Vec<u8>, entries: u8) -> Result<(), AllocError> {
     Ok(())
 }
 
-// A topology of so many entries, and their numbers.
+// Adds a topology of `entries` entries, and their numbers.
 fn push_topology(bytes: &mut Vec<u8>, entries: u8) -> Result<(), AllocError> {
     bytes.extend_from_slice(&HEAD)?;
     bytes.extend_from_slice(&[4, entries])?;
@@ -61,7 +61,7 @@ fn push_topology(bytes: &mut Vec<u8>, entries: u8) -> Result<(), AllocError> {
     Ok(())
 }
 
-// The spelling of a topology of so many entries with twelve links each.
+// Returns the encoding of a topology of `entries` entries with twelve links each.
 fn topology(alloc: Global, entries: u8) -> Result<Vec<u8>, AllocError> {
     let mut bytes = Vec::new(alloc);
     push_topology(&mut bytes, entries)?;

@@ -1,10 +1,10 @@
-//! Tests of what neither a clause nor the whole program shows of the crates below the network: readers and
-//! writers that fail, a constant that its clause takes as it is, the greatest frame in just enough blocks, and a
-//! call that the program does not make.
+//! tests: unit tests of parts, for what neither a contract nor the whole program shows.
+//! They cover crates below the network: readers and writers that fail, a constant that a contract uses as it is,
+//! the largest frame in just enough blocks, and a call that the program does not make.
 //!
-//! Each file has the tests of one crate, which its first line names; `sample` has small networks. The other
-//! crates have none: their contracts say what they answer, and the cases of `tests/` and its lists for a switch
-//! make their calls. Nothing stands on this crate.
+//! Each file tests one crate, which its first line names; `sample` has small networks. The other crates need no
+//! such tests: their contracts say what they return, and the cases of `tests/` and its lists for a switch make
+//! their calls. No crate depends on this one.
 #![tactic(auto)]
 
 #[cfg(test)]

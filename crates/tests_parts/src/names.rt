@@ -1,4 +1,4 @@
-//! What hosts remember of names (`host_names`).
+//! What hosts remember of senders (`host_names`).
 
 ghost use Rattle.std.specs.Prelude.{◌≤◌, All, IfOk, ℕ};
 
@@ -6,7 +6,7 @@ use host_names::cache::Cache;
 use host_names::choice::Choice;
 use std::test::Fail;
 
-// A cache of packets from these senders, all at tick 0 from address 17.
+// Returns a cache after packets from these senders, all at tick 0 from address 17.
 fn heard_from(rt: &HostRuntime, uids: &[u64]) -> Result<Cache, Fail>
     ensures { IfOk result (λ cache. (now : ℕ) → All (λ arrival. arrival.tick ≤ now) cache) }
 {

@@ -6,14 +6,14 @@ use an_base::body::{AnswerBody, Body};
 use ordered_link::receiver::{Receiver, Verdict};
 use std::process::Abort;
 
-// The body with this version comes with this number.
+// Passes the body with version `k` as body `k` to the receiver.
 fn come(receiver: &mut Receiver, k: u32) -> Verdict
     requires { 1 ≤ k }
 {
     receiver.on_carry(k, Body::Answer(AnswerBody::new(k, false)))
 }
 
-// The version of the held body that is wanted, which is accepted.
+// Accepts the held body that is expected next, and returns its version.
 fn next_version(receiver: &mut Receiver) -> Option<u32> {
     match receiver.next()? {
         Body::Answer(body) => Some(body.version),
@@ -21,7 +21,8 @@ fn next_version(receiver: &mut Receiver) -> Option<u32> {
     }
 }
 
-// The first body is accepted, and the third one, which came before the second, after it.
+// Asserts that the first body is accepted, and that the third one, which came before the second, is
+// held.
 fn come_early(rt: &impl Abort, receiver: &mut Receiver) {
     assert!(rt; matches!(come(receiver, 1), Verdict::Accepted(_)));
     assert!(rt; next_version(receiver) == None);

@@ -9,7 +9,7 @@ use frame_region::region::{NoRoom, Region, Slip};
 use std::process::Abort;
 use std::test::Fail;
 
-// A region of a block less has no room for it.
+// Asserts that a region with one block less has no room for the frame.
 fn has_no_room<R: Abort + AllocGlobal>(rt: &R, frame: &[u8; 22_591]) -> Result<(), Fail> {
     let mut region = Region::new(rt.alloc(), 352)?;
     let no_room = NoRoom {
@@ -20,7 +20,7 @@ fn has_no_room<R: Abort + AllocGlobal>(rt: &R, frame: &[u8; 22_591]) -> Result<(
     Ok(())
 }
 
-// A region of just as many is full with it, and gives it back.
+// Asserts that a region with just enough blocks is full with the frame, and returns it.
 fn is_full(
     rt: &impl Abort,
     region: &mut Region,
@@ -55,7 +55,7 @@ fn put(region: &mut Region, bytes: &[u8]) -> Result<Slip, Fail>
     }
 }
 
-// There is no room for bytes.
+// Asserts that there is no room for bytes.
 fn refuses(rt: &impl Abort, region: &mut Region, bytes: &[u8], no_room: NoRoom)
     requires least { 1 ≤ length bytes.now }
     requires most { length bytes.now ≤ MOST_FRAME }

@@ -11,7 +11,7 @@ use common_values::memory::OutOfMemory;
 use std::alloc::Global;
 use topo_graph::graph::Graph;
 
-/// The life of this identifier, in its first boot.
+/// Returns the life of the identifier `uid`, below 100, in its first boot.
 pub fn life_of(uid: u64) -> Life
     requires { uid < 100 }
     ensures { result ≡ record { uid = uid; boot = 1 } }
@@ -19,7 +19,7 @@ pub fn life_of(uid: u64) -> Life
     Life::new(uid, 1)
 }
 
-/// A link from a port to a port of this life.
+/// Returns a link from port `port` to port `far`, each 1 to 12, of the life of `uid`, below 100.
 pub fn link(port: u8, uid: u64, far: u8) -> PortLink
     requires uid { uid < 100 }
     requires least { 1 ≤ port }
@@ -32,7 +32,7 @@ pub fn link(port: u8, uid: u64, far: u8) -> PortLink
     PortLink::new(port, End::new(life_of(uid), far))
 }
 
-/// Two links, at ports 1 and 2.
+/// Returns two links, which must be at ports 1 and 2.
 pub fn two_links(one: PortLink, two: PortLink) -> Links
     requires one { one.port ≡ 1 }
     requires two { two.port ≡ 2 }
@@ -44,7 +44,8 @@ pub fn two_links(one: PortLink, two: PortLink) -> Links
     links
 }
 
-/// The entry of this life at this level of the tree of life 1, below this parent, with these links.
+/// Returns the entry of the life of `uid` at `level` of the tree of life 1, below `parent` by
+/// `port`, with these links.
 pub fn entry(uid: u64, level: u8, parent: u64, port: u8, links: Links) -> Entry
     requires uid { uid < 100 }
     requires level { level ≤ MOST_LEVEL }
@@ -64,7 +65,10 @@ pub fn entry(uid: u64, level: u8, parent: u64, port: u8, links: Links) -> Entry
     }
 }
 
-/// A ring of lives 1, 2, 4 and 3, of which 4 is at level 2.
+/// Returns a ring of lives 1, 2, 4 and 3, of which 4 is at level 2.
+///
+/// # Errors
+/// `OutOfMemory` if an allocation fails.
 pub fn ring(alloc: Global) -> Result<Graph, OutOfMemory>
     ensures { IfOk result (λ graph. map (λ entry. entry.life.uid) graph ≡ 1 ∷ 2 ∷ 3 ∷ 4 ∷ []) }
 {

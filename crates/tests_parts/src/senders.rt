@@ -7,7 +7,7 @@ use ordered_link::sender::Sender;
 use std::process::Abort;
 use std::test::Fail;
 
-// Pushes the body with this version; answers the number with which it goes out.
+// Pushes the body with this version, and returns the number with which it goes out.
 fn push<R: Abort>(rt: &R, sender: &mut Sender, version: u32) -> Result<Option<u32>, Fail>
     requires { 1 ≤ version }
 {
@@ -15,7 +15,7 @@ fn push<R: Abort>(rt: &R, sender: &mut Sender, version: u32) -> Result<Option<u3
     Ok(sender.push(Body::Answer(AnswerBody::new(version, false)), 0)?)
 }
 
-// Nine bodies are pushed at tick 0: eight go out, and the ninth waits.
+// Pushes nine bodies at tick 0: eight go out, and the ninth waits.
 fn push_nine<R: Abort>(rt: &R, sender: &mut Sender) -> Result<(), Fail> {
     for k in 1..9 {
         assert!(rt; push(rt, sender, k)? == Some(k));

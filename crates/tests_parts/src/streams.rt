@@ -1,4 +1,4 @@
-//! Streams (`outside`): that readers and writers that fail are told.
+//! Streams (`outside`): failing readers and writers are reported.
 
 use outside::all::{ReadStop, read_all, write_all};
 use outside::sink::{Sink, Took};
@@ -8,7 +8,8 @@ use std::io;
 use std::io::{ErrorKind, Read, Write};
 use std::test::Fail;
 
-// A reader that gives one byte at each call, fails at its second, and is at its end at its fifth.
+// A reader that gives one byte at each call, fails at its second call, and is at its end at its
+// fifth.
 #[derive(Drop)]
 struct FailingReader {
     calls: u8,
@@ -28,7 +29,8 @@ impl Read for FailingReader {
     }
 }
 
-// A writer that fails at its second call, takes nothing at its third, and else two bytes at most.
+// A writer that fails at its second call, takes nothing at its third, and otherwise at most two
+// bytes.
 #[derive(Drop)]
 struct FailingWriter {
     calls: u8,

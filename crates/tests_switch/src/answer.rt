@@ -1,4 +1,4 @@
-//! The text of what a switch answers.
+//! The text that reports what a switch does.
 
 use an_base::life::{End, Life};
 use an_base::port::{Note, PortState};
@@ -7,7 +7,7 @@ use std::alloc::{AllocError, Global};
 use switch_core::out::Out;
 use switch_core::switch::{Switch, TableFor};
 
-// The word for a state.
+// Returns the word for a state.
 fn state(state: PortState) -> &'static str {
     match state {
         PortState::Dead => "dead",
@@ -33,7 +33,10 @@ fn push_peer(text: &mut String, peer: End) -> Result<(), AllocError> {
     write!(text, ":{port}")
 }
 
-/// Adds a line for each frame that goes out, and one where what came in is no frame.
+/// Adds a line for each outgoing frame, and one if what came in is not a frame.
+///
+/// # Errors
+/// A failed allocation. Which text there is then is unspecified.
 pub fn push_out(alloc: Global, text: &mut String, out: &Out) -> Result<(), AllocError> {
     for frame in out.frames.as_slice() {
         let bytes = hex::encode(alloc, frame.bytes())?;
@@ -76,6 +79,9 @@ fn push_shown(text: &mut String, note: &Note) -> Result<(), AllocError> {
 }
 
 /// Adds the line of what a switch shows of itself.
+///
+/// # Errors
+/// A failed allocation. Which text there is then is unspecified.
 pub fn push_note(text: &mut String, switch: &Switch) -> Result<(), AllocError> {
     push_shown(text, &switch.note())?;
     if let Some(topo) = switch.finish() {
@@ -85,7 +91,7 @@ pub fn push_note(text: &mut String, switch: &Switch) -> Result<(), AllocError> {
     text.push_str("\n")
 }
 
-// Adds the exits of a row, a line where there are none.
+// Adds the exits of a row, or a dash if there are none.
 fn push_exits(text: &mut String, exits: &Exits) -> Result<(), AllocError> {
     let mut mark = ":";
     let ports = exits.list();
@@ -137,6 +143,9 @@ fn push_members(text: &mut String, switch: &Switch) -> Result<(), AllocError> {
 }
 
 /// Adds the lines of a table that was loaded.
+///
+/// # Errors
+/// A failed allocation. Which text there is then is unspecified.
 pub fn push_table(text: &mut String, switch: &Switch, loaded: &TableFor) -> Result<(), AllocError> {
     let (epoch, number) = (loaded.epoch, loaded.table.number());
     writeln!(text, "loaded {epoch} {number}")?;

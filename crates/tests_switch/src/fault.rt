@@ -1,27 +1,27 @@
-//! Why a line is not answered.
+//! Why a line is invalid.
 
 use common_values::memory::OutOfMemory;
 use std::alloc::AllocError;
 
-/// Why a line is not answered.
+/// Why a line is invalid.
 #[derive(Clone, Copy, Debug)]
 pub enum Fault {
-    /// It is none of the lines that there are.
+    /// The line has none of the four forms.
     Line,
-    /// A number is none, or out of its range.
+    /// A number is missing, or out of its range.
     Number,
     /// No switch was started.
     NoSwitch,
     /// The switch takes no more clocks and frames.
     Stopped,
-    /// No table is to be loaded.
+    /// No table is due.
     NotDue,
-    /// No memory was found.
+    /// An allocation failed.
     OutOfMemory,
 }
 
 impl Fault {
-    /// The cause in words.
+    /// Returns the reason in words.
     pub fn text(self) -> &'static str {
         match self {
             Fault::Line => "no such line",

@@ -1,4 +1,4 @@
-//! What happens to a switch, and the line that says it.
+//! What happens to a switch, and the line that describes it.
 
 use crate::fault::Fault;
 use an_base::life::Life;
@@ -9,13 +9,13 @@ use std::alloc::Global;
 /// What happens to a switch.
 #[derive(Drop)]
 pub enum Happening {
-    /// It is started.
+    /// The switch is started.
     Start {
         /// Its life.
         life: Life,
         /// The epoch.
         epoch: u64,
-        /// The number that it had before.
+        /// The short address that it had before.
         had: u8,
         /// Whether its tables have all legal routes.
         any: bool,
@@ -34,16 +34,16 @@ pub enum Happening {
         /// The bytes.
         bytes: Vec<u8>,
     },
-    /// It loads the table.
+    /// The switch loads the table.
     Load,
 }
 
-// The word at a place, which is empty behind the last.
+// Returns the word at an index, or an empty one after the last.
 fn word<'a>(words: &[&'a str], place: usize) -> &'a str {
     words.get(place).copied().unwrap_or("")
 }
 
-// The number at a place.
+// Returns the number at an index.
 fn number(words: &[&str], place: usize) -> Result<u64, Fault> {
     match word(words, place).parse::<u64>() {
         Ok(number) => Ok(number),
@@ -51,7 +51,7 @@ fn number(words: &[&str], place: usize) -> Result<u64, Fault> {
     }
 }
 
-// The number at a place, which is to be below 2^32.
+// Returns the number at an index, which must be below 2^32.
 fn short_number(words: &[&str], place: usize) -> Result<u32, Fault> {
     match word(words, place).parse::<u32>() {
         Ok(number) => Ok(number),
@@ -59,7 +59,7 @@ fn short_number(words: &[&str], place: usize) -> Result<u32, Fault> {
     }
 }
 
-// The number at a place, which is to be below 256.
+// Returns the number at an index, which must be below 256.
 fn byte(words: &[&str], place: usize) -> Result<u8, Fault> {
     match word(words, place).parse::<u8>() {
         Ok(number) => Ok(number),
@@ -67,10 +67,10 @@ fn byte(words: &[&str], place: usize) -> Result<u8, Fault> {
     }
 }
 
-// The first number that is no identifier.
+// The lowest number that is not an identifier.
 const UID_END: u64 = 1 << 48;
 
-// The life of an identifier and a boot.
+// Returns the life with an identifier and a boot.
 fn life(uid: u64, boot: u32) -> Result<Life, Fault> {
     if uid >= UID_END {
         return Err(Fault::Number);
@@ -81,7 +81,7 @@ fn life(uid: u64, boot: u32) -> Result<Life, Fault> {
     Ok(Life::new(uid, boot))
 }
 
-// The words of `start`.
+// Reads the words of `start`.
 fn start(words: &[&str]) -> Result<Happening, Fault> {
     let routes = word(words, 5);
     if words.len() != 6 || (routes != "any" && routes != "least") {
@@ -95,7 +95,7 @@ fn start(words: &[&str]) -> Result<Happening, Fault> {
     })
 }
 
-// What a letter says of a port.
+// Returns what a letter says of a port.
 fn sample(letter: u8) -> Result<Sample, Fault> {
     match letter {
         b'd' => Ok(Sample::Down),
@@ -105,7 +105,7 @@ fn sample(letter: u8) -> Result<Sample, Fault> {
     }
 }
 
-// The words of `clock`.
+// Reads the words of `clock`.
 fn clock(words: &[&str]) -> Result<Happening, Fault> {
     let letters = word(words, 2);
     if words.len() != 3 || letters.len() != 12 {
@@ -121,7 +121,7 @@ fn clock(words: &[&str]) -> Result<Happening, Fault> {
     })
 }
 
-// The bytes that a word spells.
+// Returns the bytes that a word encodes.
 fn bytes(alloc: Global, word: &str) -> Result<Vec<u8>, Fault> {
     if word == "-" {
         return Ok(Vec::new(alloc));
@@ -133,7 +133,7 @@ fn bytes(alloc: Global, word: &str) -> Result<Vec<u8>, Fault> {
     }
 }
 
-// The words of `frame`.
+// Reads the words of `frame`.
 fn frame(alloc: Global, words: &[&str]) -> Result<Happening, Fault> {
     if words.len() != 3 {
         return Err(Fault::Line);
@@ -144,7 +144,7 @@ fn frame(alloc: Global, words: &[&str]) -> Result<Happening, Fault> {
     })
 }
 
-// What words say.
+// Returns what the words describe.
 fn said(alloc: Global, words: &[&str]) -> Result<Happening, Fault> {
     let first = word(words, 0);
     if first == "start" {
@@ -162,7 +162,10 @@ fn said(alloc: Global, words: &[&str]) -> Result<Happening, Fault> {
     Err(Fault::Line)
 }
 
-/// What a line says.
+/// Returns what a line describes.
+///
+/// # Errors
+/// The `Fault` of the line: `Line`, `Number` or `OutOfMemory`.
 pub fn happening_of(alloc: Global, line: &str) -> Result<Happening, Fault> {
     let words: Vec<&str> = line.split_ascii_whitespace().collect(alloc)?;
     said(alloc, &words)

@@ -1,4 +1,4 @@
-//! A switch to which things happen, a line each.
+//! A switch, and what happens to it, one line each.
 
 ghost use Rattle.std.specs.Prelude.{◌≡◌, ◌<◌, ◌^◌, false};
 ghost use Rattle.switch_core.specs.Kept.{IsWorking, carried};
@@ -12,7 +12,7 @@ use std::alloc::Global;
 use switch_core::out::Out;
 use switch_core::switch::{ClockRefusal, MOST_CARRIED, MOST_WORKS, Switch};
 
-// A new switch.
+// Starts a new switch.
 fn start(alloc: Global, life: Life, epoch: u64, had: u8, any: bool) -> Result<Switch, Fault> {
     if had < 1 {
         return Err(Fault::Number);
@@ -23,7 +23,7 @@ fn start(alloc: Global, life: Life, epoch: u64, had: u8, any: bool) -> Result<Sw
     Ok(Switch::start(alloc, life, epoch, had, any)?)
 }
 
-// Whether a switch takes no more clocks and frames.
+// Reports whether a switch takes no more clocks and frames.
 fn is_over(switch: &Switch) -> bool
     ensures works { result ≡ false → switch.now.works < 2 ^ 60 }
     ensures carried { result ≡ false → carried switch.now < 2 ^ 28 }
@@ -33,7 +33,7 @@ fn is_over(switch: &Switch) -> bool
     is_full || switch.is_spent()
 }
 
-// A clock comes. Answers whether the epochs are spent.
+// Passes a clock event to a switch. Reports whether the epochs are spent.
 fn clock(
     switch: &mut Switch,
     now: u64,
@@ -50,7 +50,7 @@ fn clock(
     }
 }
 
-// Bytes come by a port.
+// Passes bytes that came by a port to a switch.
 fn handle(switch: &mut Switch, bytes: &[u8], port: u8, out: &mut Out) -> Result<(), Fault> {
     if is_over(switch) {
         return Err(Fault::Stopped);
@@ -64,7 +64,7 @@ fn handle(switch: &mut Switch, bytes: &[u8], port: u8, out: &mut Out) -> Result<
     Ok(switch.handle(bytes, port, out)?)
 }
 
-// The table is loaded.
+// Loads the table.
 fn load(switch: &mut Switch, text: &mut String) -> Result<(), Fault> {
     if !switch.load_due() {
         return Err(Fault::NotDue);
@@ -73,7 +73,7 @@ fn load(switch: &mut Switch, text: &mut String) -> Result<(), Fault> {
     Ok(push_table(text, switch, &loaded)?)
 }
 
-/// A switch, if one was started, with what goes out of it and the answer to the last line.
+/// A switch, if one was started, with its outgoing frames and the output for the last line.
 #[derive(Drop)]
 pub struct Trace {
     alloc: Global,
@@ -83,7 +83,7 @@ pub struct Trace {
 }
 
 impl Trace {
-    /// No switch yet.
+    /// Creates a trace without a switch.
     pub fn new(alloc: Global) -> Self {
         Trace {
             alloc,
@@ -93,12 +93,12 @@ impl Trace {
         }
     }
 
-    /// The answer to the last line.
+    /// Returns the output for the last line.
     pub fn text(&self) -> &str {
         self.text.as_str()
     }
 
-    // A clock comes.
+    // Passes a clock event to the switch.
     fn clock(&mut self, now: u64, samples: &[Sample; 12]) -> Result<(), Fault> {
         let Some(switch) = &mut self.switch else {
             return Err(Fault::NoSwitch);
@@ -109,7 +109,7 @@ impl Trace {
         Ok(push_out(self.alloc, &mut self.text, &self.out)?)
     }
 
-    // Bytes come by a port.
+    // Passes bytes that came by a port to the switch.
     fn frame(&mut self, port: u8, bytes: &[u8]) -> Result<(), Fault> {
         let Some(switch) = &mut self.switch else {
             return Err(Fault::NoSwitch);
@@ -118,7 +118,7 @@ impl Trace {
         Ok(push_out(self.alloc, &mut self.text, &self.out)?)
     }
 
-    // The table is loaded.
+    // Loads the table.
     fn load(&mut self) -> Result<(), Fault> {
         match &mut self.switch {
             Some(switch) => load(switch, &mut self.text),
@@ -126,7 +126,7 @@ impl Trace {
         }
     }
 
-    // Something happens.
+    // Makes something happen to the switch.
     fn happen(&mut self, happening: &Happening) -> Result<(), Fault> {
         match happening {
             Happening::Start {
@@ -144,7 +144,10 @@ impl Trace {
         }
     }
 
-    /// What a line says happens.
+    /// Makes happen what `line` describes.
+    ///
+    /// # Errors
+    /// The `Fault` of the line, or of what it describes. The output is then unspecified.
     pub fn go_on(&mut self, line: &str) -> Result<(), Fault> {
         self.text.clear();
         let happening = happening_of(self.alloc, line)?;

@@ -1,8 +1,6 @@
-//! Tests of what no clause sees in the crates of threads: that turns come, that who sleeps is woken, and
-//! that workers go beside each other.
-//!
-//! It stands on `fabric_turn`, `switch_threads` and what they stand on, and nothing stands on it. Each file
-//! has the tests of one of the two.
+//! tests: tests of the crates with threads, for what no contract shows.
+//! They show that turns come, that sleeping threads are woken, and that workers run in parallel. Each file tests
+//! one of the crates `fabric_turn` and `switch_threads`. No crate depends on this one.
 #![tactic(auto)]
 
 #[cfg(test)]

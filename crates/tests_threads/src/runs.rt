@@ -12,14 +12,14 @@ use std::test::Fail;
 use std::thread::{Threads, yield_now};
 use switch_threads::{Gate, run};
 
-// How often one looks for the others before it gives up.
+// How often a worker checks for the others before it gives up.
 const LOOKS: u32 = 20_000_000;
 
-// Two switches with a link, one of which begins a second life, and a switch alone.
+// Two switches with a link, one of which begins a second life, and a switch without a link.
 const THREE: &[u8] =
     b"autonet 1\nswitch A 000000000001\nswitch B 000000000002\nswitch C 000000000003\nlink A 1 B 1\nat 40 restart B\nend\n";
 
-// How many turns each worker made, and how many were not numbered from 1 on.
+// The number of turns that each worker made, and the number of turns that were not numbered from 1 on.
 #[derive(Drop)]
 struct Turns {
     made: [AtomicU64; 3],
@@ -27,7 +27,7 @@ struct Turns {
 }
 
 impl Turns {
-    // That so many turns were made by a worker, or one more.
+    // Checks that `turn` turns were made by a worker, once `more` are added.
     fn look(&self, worker: u8, turn: u64, more: u64) {
         let made = match self.made.get(usize::from(worker).wrapping_sub(1)) {
             Some(made) => made.fetch_add(more, Ordering::SeqCst),
@@ -53,7 +53,7 @@ impl Gate for Turns {
     }
 }
 
-// How many workers there are, how many came to their first turn, and how many looked for the others in vain.
+// The number of workers, of those that came to their first turn, and of those that checked for the others in vain.
 #[derive(Drop)]
 struct Meeting {
     all: u64,
@@ -62,7 +62,7 @@ struct Meeting {
 }
 
 impl Meeting {
-    // That of so many workers, none of which has come.
+    // Creates a meeting of `all` workers, none of which has come.
     fn of(all: u64) -> Meeting {
         Meeting {
             all,
@@ -94,7 +94,7 @@ impl Gate for Meeting {
     fn after<R: Wait>(&self, _rt: &R, _worker: u8, _turn: u64) {}
 }
 
-// The journal of a run of the network of this text, which settles.
+// Returns the journal of a run of the network of this text, which must settle.
 fn settled<R: Threads + Wait + Sync + Abort, G: Gate>(
     rt: &R,
     alloc: Global,
@@ -108,7 +108,7 @@ fn settled<R: Threads + Wait + Sync + Abort, G: Gate>(
     Ok(run.run.journal)
 }
 
-// Each worker made turns, and all were numbered from 1 on.
+// Asserts that each worker made turns, and that all were numbered from 1 on.
 fn are_numbered(rt: &impl Abort, turns: &Turns) {
     assert_eq!(rt; turns.wrong.load(Ordering::SeqCst), 0);
     for made in &turns.made {
@@ -127,7 +127,7 @@ fn the_gate_is_called_round_each_turn(rt: HostRuntime) -> Result<(), Fail> {
     Ok(())
 }
 
-// All workers met.
+// Asserts that all workers met.
 fn have_met(rt: &impl Abort, meeting: &Meeting) {
     assert_eq!(rt; meeting.came.load(Ordering::SeqCst), meeting.all);
     assert_eq!(rt; meeting.alone.load(Ordering::SeqCst), 0);
@@ -141,7 +141,7 @@ fn workers_run_beside_each_other(rt: HostRuntime) -> Result<(), Fail> {
     Ok(())
 }
 
-// A row of thirty switches, each with a link to the next.
+// Returns a row of thirty switches, each with a link to the next.
 fn thirty(alloc: Global) -> Result<Vec<u8>, AllocError> {
     let mut text = Vec::new(alloc);
     text.extend_from_slice(b"autonet 1\n")?;
@@ -172,10 +172,10 @@ fn thirty_workers_run_beside_each_other(rt: HostRuntime) -> Result<(), Fail> {
     Ok(())
 }
 
-// How often a slow worker gives way: several times as often as one that rests looks before it sleeps.
+// How often a slow worker yields: several times as often as a resting party checks before it sleeps.
 const PAUSES: u32 = 20_000;
 
-// One worker is so slow ahead of each sixteenth turn that the threads of the others sleep meanwhile.
+// A gate at which one worker is so slow before each sixteenth turn that the threads of the others sleep meanwhile.
 #[derive(Drop)]
 struct Slow {
     worker: u8,

@@ -13,7 +13,7 @@ use std::sync::Wait;
 use std::test::Fail;
 use std::thread::{Threads, for_each_mut, yield_now};
 
-// How many calls each caller makes.
+// The number of calls that each caller makes.
 const CALLS: u64 = 1000;
 
 #[derive(Clone, Copy)]
@@ -22,7 +22,7 @@ struct Line {
     number: u64,
 }
 
-// Lines with the numbers below `limit`, each of which takes so many pauses to write.
+// Lines with the numbers below `limit`, each of which takes `pauses` pauses to write.
 #[derive(Drop)]
 struct Tally {
     limit: u64,
@@ -45,7 +45,7 @@ impl Tally {
 impl Staged for Tally {
     type Ask = u64;
 
-    // How many lines there were before, or `None` if there was no memory.
+    // The number of lines before, or `None` if an allocation failed.
     type Reply = Option<usize>;
 
     type Entry = Line;
@@ -80,7 +80,7 @@ impl Staged for Tally {
     ghost stays_fit = { λ _ _ _ _ _ fit _. fit };
 }
 
-// Seats for all callers, the first seat last.
+// Returns seats for all callers, the first seat last.
 fn seats(
     turnstile: &Turnstile<Tally>,
     alloc: Global,
@@ -115,7 +115,7 @@ fn work<R: Wait>(rt: &R, turnstile: &Turnstile<Tally>, seat: &mut Seat<Tally>)
     }
 }
 
-// Each seat's calls, in a thread of its own.
+// Makes each seat's calls, in a thread of its own.
 fn work_all<R: Threads + Wait + Sync>(
     rt: &R,
     turnstile: &Turnstile<Tally>,
@@ -140,7 +140,7 @@ fn work_all<R: Threads + Wait + Sync>(
     );
 }
 
-// All seats joined into the last one.
+// Joins all seats into the last one.
 fn joined(turnstile: &Turnstile<Tally>, callers: u32, mut seats: Vec<Seat<Tally>>) -> Seat<Tally>
     requires seats { All (λ s. (s.0 ≡ turnstile_id turnstile.now) × HasOneNumber callers s.1) seats.items }
     requires all { vec_len seats ≡ callers }
@@ -157,7 +157,7 @@ fn joined(turnstile: &Turnstile<Tally>, callers: u32, mut seats: Vec<Seat<Tally>
     seat
 }
 
-// What a tally, each line of which takes so many pauses, has after so many callers made their calls, each in a
+// Returns a tally, each line of which takes `pauses` pauses, after `callers` callers made their calls, each in a
 // thread of its own.
 fn tally_of<R: Threads + Wait + Sync>(
     rt: &R,
@@ -175,7 +175,7 @@ fn tally_of<R: Threads + Wait + Sync>(
     Ok(turnstile.close(seat))
 }
 
-// How many lines each caller has, which are numbered in order. There are so many callers.
+// Returns the number of lines of each of `callers` callers, and asserts that they are numbered in order.
 fn counted(rt: &impl Abort, lines: &[Line], callers: u32) -> [u64; 16] {
     let mut next = [0u64; 16];
     for line in lines {
@@ -187,7 +187,7 @@ fn counted(rt: &impl Abort, lines: &[Line], callers: u32) -> [u64; 16] {
     next
 }
 
-// These are the lines of all calls of so many callers, each caller's in order.
+// Asserts that these are the lines of all calls of `callers` callers, each caller's in order.
 fn are_in_order(rt: &impl Abort, lines: &[Line], callers: u32) {
     for (caller, count) in counted(rt, lines, callers).iter().enumerate() {
         let calls = if caller < callers as usize { CALLS } else { 0 };
@@ -204,8 +204,8 @@ fn threads_add_all_lines_in_order(rt: HostRuntime) -> Result<(), Fail> {
     Ok(())
 }
 
-// Each turn takes so long that those who wait for theirs sleep, so that a turn that ends and wakes nobody would
-// keep this test from ending.
+// Each turn takes so long that the callers that wait for theirs sleep. If a turn ended and woke no caller, this
+// test would not end.
 #[test]
 fn callers_that_sleep_meanwhile_are_woken(rt: HostRuntime) -> Result<(), Fail> {
     for callers in [2u32, 3, 8] {
