@@ -1,4 +1,6 @@
 //! Theorems about broadcasts, by themselves and together with the rows of tables. No function here has code.
+//!
+//! All except for the first assume that the positions are the tree of the links.
 
 ghost use Rattle.std.specs.Prelude.{◌≡◌, ◌<◌, ℕ, suc, List, Bool, length};
 ghost use Rattle.an_base.specs.Values.{EntryOf, LifeId};

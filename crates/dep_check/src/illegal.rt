@@ -226,8 +226,8 @@ fn are_legal(sides: &Sides<'_>, exits: &[u16], rows: &[Row]) -> bool
 
 /// Returns the least illegal exit of `rows`, if there is one.
 ///
-/// By design, not proved, it visits each exit of the rows once only if there is one. The caller must pass the
-/// far sides of all spots, and steps that have the exits of all rows.
+/// By design, not proved, it visits the exits of single rows, each once, only if there is one. The caller must
+/// pass the far sides of all spots, and steps that have the exits of all rows.
 ///
 /// # Errors
 /// `OutOfMemory` if an allocation fails.

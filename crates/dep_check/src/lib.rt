@@ -1,7 +1,7 @@
 //! autonet, tables: the checker of routing tables.
 //!
-//! It checks that the rows of the tables cannot deadlock, bring every packet to its target, and never lead a packet
-//! upward after it came down.
+//! It checks that packets that follow the rows of the tables cannot deadlock, reach their targets, and never go up
+//! after they came down.
 //!
 //! It depends on `common_graph` and `topo_graph`, and for a theorem on `table_build`. Its contract: `check` reports the
 //! least cycle of channels; otherwise the least pair that the rows do not join; otherwise the least illegal exit;

@@ -96,8 +96,8 @@ fn are_tiers(steps: &Steps, tiers: &[usize]) -> bool
 
 /// Returns a tier for each spot, so that no step leads to a lower tier. The caller must pass the steps of channels.
 ///
-/// By design, not proved, channels that lead to one another share a tier, and no others do; if the check of
-/// that fails, all spots share one. It visits each step a few times.
+/// By design, not proved, channels that lead to one another share a tier, and no others do. If the tiers found
+/// do not pass the check, all spots share one instead. It visits each step a few times.
 ///
 /// # Errors
 /// `OutOfMemory` if an allocation fails.

@@ -30,8 +30,8 @@ pub fn what_comes_about_is_sound()
         × IsSound (layout_of entries numbers rows most) (entered acts) flow }
 {}
 
-/// States that some packet can move while a packet is on its way: the first packet of every channel of lowest
-/// rank among the channels that have packets.
+/// States that some packet can move while a packet is on its way. Of the channels that have packets, the first
+/// packet of each channel of lowest rank can move.
 pub fn some_packet_can_move()
     ensures least { (layout : LayoutOf) (ranks : List (Option ℕ)) (known : List ℕ) (flow : FlowOf)
         (channel : Channel) (rank : ℕ)

@@ -57,14 +57,16 @@ pub fn following_ends()
 {}
 
 /// States that packets that follow exits from port 0 of a member towards another one have an exit
-/// wherever they are before they reach it. Because following exits ends, they reach it.
+/// wherever they are before they reach it, if the positions are the tree of the links. Because following
+/// exits ends, they reach it.
 pub fn following_goes_on()
     ensures { (es : List EntryOf) (any : Bool) (y x z out : ℕ) (ps : List ℕ) → IsGraph es → IsTree es
         → x < length es → y < length es → Follows es any y x 0 ps z out → z ≢ y
         → (p : ℕ) × Begins es any (may_go_up es z out) z y p }
 {}
 
-/// States that packets that follow exits from port 0 of a member towards another one reach it.
+/// States that packets that follow exits from port 0 of a member towards another one reach it, if the
+/// positions are the tree of the links.
 ///
 /// Wherever they are, they can continue to it, and if they have no exit, they have reached it. They take a
 /// legal route of at most 2 (n - 1) links; if exits begin shortest routes, they take a shortest one.
@@ -90,7 +92,7 @@ pub fn no_channel_cycle()
 {}
 
 /// States that a shortest legal route joins every two members, and that every member has exits to every
-/// other one for packets that start there.
+/// other one for packets that start there, if the positions are the tree of the links.
 pub fn members_have_exits()
     ensures shortest { (es : List EntryOf) (x y : ℕ) → IsGraph es → IsTree es → x < length es → y < length es
         → (n : ℕ) × IsShortest es true x y n }
