@@ -1,4 +1,4 @@
-use Rattle.std.proofs.Common.{◌≡◌, ◌∙◌, sym, arith, ◌<◌}
+use Rattle.std.proofs.Common.{◌∙◌, sym, arith, ◌<◌}
 use Rattle.std.proofs.lemmas.Nat.Bits.{shr_and_one}
 use Rattle.fabric_lane_tables.specs.PathLevels.{told_levels}
 use Rattle.fabric_lane_tables.proofs.InUseLemmas.{low_kept, low_more}
