@@ -6,7 +6,9 @@ use Rattle.std.proofs.lemmas.Bool.{and_parts, cases_eq, cases_lt, eqb-true, fals
 use Rattle.std.proofs.lemmas.Bool.Decides.{nat_tests}
 use Rattle.std.proofs.lemmas.List.{get_or_past}
 use Rattle.std.proofs.lemmas.List.Elements.{Contains-append_left, Contains-push, Contains-push_cases}
-use Rattle.std.proofs.lemmas.Nat.Bits.{bit_at-lt, bit_at-pow_other, bit_at-pow_same, bit_at-trailing_zeros, bit_at-zero, bit_at_cat_low, bit_at_or}
+use Rattle.std.proofs.Math.Nat.{lt-div-mul-add}
+use Rattle.std.proofs.lemmas.Nat.{pow_pos}
+use Rattle.std.proofs.lemmas.Nat.Bits.{bit_at-lt, bit_at-pow_other, bit_at-pow_same, bit_at-trailing_zeros, bit_at-zero, bit_at_above, bit_at_cat_low, bit_at_or}
 use Rattle.std.proofs.lemmas.Option.{same_Some, none-some, slice_get_within}
 use Rattle.fabric_model.specs.declared.node.EndPort.{EndPort}
 use Rattle.fabric_model.specs.declared.node.EndPort.TheVariants as port
@@ -200,6 +202,20 @@ low_kept a b source lid levels level none before =
     (λ o l k is. elim (cases_eq k level) [
       | inl same ↦ absurd (none (ap (bit_at levels) (sym same) ∙ is.3))
       | inr other ↦ (is.0, is.1, (let less = is.2 in omega arith), is.3)
+    ])
+    (λ o l k is. (is.0, is.1, (let less = is.2 in omega arith), is.3))
+
+-- no level is left
+pub low_all : (a b : LevelsOf) (source : EndPort) (lid levels level : ℕ) → level ≤ 16 → levels / 2 ^ level ≡ 0 → AddsLevels a b (IsLowLevel source lid levels level) → AddsLevels a b (IsLevelOfPair source lid levels)
+low_all a b source lid levels level fits none before =
+    let some : 0 < 2 ^ level = pow_pos level in
+    let parts = lt-div-mul-add {a = levels} {b = 2 ^ level} some in
+    let whole : levels < 0 * 2 ^ level + 2 ^ level = subst (λ (n : ℕ). levels < n * 2 ^ level + 2 ^ level) none parts in
+    let small : levels < 2 ^ level = omega (arith, whole) in
+    same_added a b (IsLowLevel source lid levels level) (IsLevelOfPair source lid levels) before
+    (λ o l k is. elim (cases_lt k level) [
+      | inl low ↦ (is.0, is.1, low, is.3)
+      | inr past ↦ absurd (let zero : 0 ≡ 1 = sym (bit_at_above levels level k small past) ∙ is.3 in omega arith)
     ])
     (λ o l k is. (is.0, is.1, (let less = is.2 in omega arith), is.3))
 

@@ -100,6 +100,9 @@ fn add_levels(
         (IsLevelOfPair source lid levels)) }
 {
     'levels: for level in 0..LEVELS {
+        if levels >> level == 0 {
+            return Ok(());
+        }
         if levels >> level & 1 == 1 {
             rows.add(source, lid, level)?;
         }
