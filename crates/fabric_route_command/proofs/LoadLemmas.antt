@@ -1,5 +1,5 @@
 -- How the loads go on, route by route.
-use Rattle.std.proofs.Common.{◌≡◌, ◌≢◌, ◌∙◌, sym, ap, subst, refl, ℕ, ◌+◌, ◌-◌, ◌*◌, ◌<◌, ◌⊎◌, arith, inl, inr, List, length, get_or, set}
+use Rattle.std.proofs.Common.{◌≤◌, ◌≡◌, ◌≢◌, ◌∙◌, sym, ap, subst, refl, ℕ, ◌+◌, ◌-◌, ◌*◌, ◌<◌, ◌⊎◌, arith, inl, inr, List, length, get_or, set}
 use Rattle.std.proofs.lemmas.Bool.{cases_eq, cases_lt}
 use Rattle.std.proofs.lemmas.List.{get_or-set_other, get_or-set_same, length-set}
 use Rattle.std.proofs.lemmas.Nat.{mul-add-lt, same_from_place}
@@ -60,6 +60,15 @@ module _ (fabric : FabricOf) (tables : TablesOf) where
     all = count_same (Route × Channel) (Pairs Is) (Pairs As) loads.hops
         (λ pair one. (one.0, to pair.0 pair.1 one.0 one.1)) (λ pair one. (one.0, back pair.0 pair.1 one.0 one.1)) are.all;
     less = are.less;
+  }
+
+  -- the same numbers
+  pub loads_alike : (Is : Route → Channel → Type 0) (old new : Loads) → new.each.items ≡ old.each.items → new.hops ≡ old.hops → AreLoads fabric tables Is old → AreLoads fabric tables Is new
+  loads_alike Is old new each hops are = record {
+    size = ap (λ (xs : List ℕ). length xs) each ∙ are.size;
+    each = λ channel within. subst (λ (xs : List ℕ). IsCountOf (Over Is channel) (get_or xs (number fabric channel) 0)) (sym each) (are.each channel within);
+    all = subst (λ (n : ℕ). IsCountOf (Pairs Is) n) (sym hops) are.all;
+    less = λ at. subst (λ (xs : List ℕ). get_or xs at 0 ≤ new.hops) (sym each) (let less = are.less at in omega arith);
   }
 
   pub no_loads : (Is : Route → Channel → Type 0) (loads : Loads) → length loads.each.items ≡ switch_count fabric * fabric.most → ((at : ℕ) → get_or loads.each.items at 0 ≡ 0) → loads.hops ≡ 0 → ((route : Route) (channel : Channel) → Is route channel → ⊥) → AreLoads fabric tables Is loads

@@ -26,16 +26,18 @@ pub record GoesOver (fabric : FabricOf) (tables : TablesOf) (channel : Channel) 
   pub next : ℕ
   pub goes : hop fabric tables channel.switch route.lid ≡ On channel.port next
 
--- The most of these routes that go over one channel: over none go more, and over one of them just so many, unless this
--- is 0.
+-- The most of these routes that go over one channel.
+-- Over no channel go more, and over some channel just so many, unless this is 0.
 pub record IsGreatestLoad (fabric : FabricOf) (tables : TablesOf) (greatest : ℕ) : Type 0 where
   pub most :
       (channel : Channel)
       → (load : ℕ) × IsCountOf (GoesOver fabric tables channel) load × (load ≤ greatest)
   pub some : greatest ≢ 0 → (channel : Channel) × IsCountOf (GoesOver fabric tables channel) greatest
 
--- How many of these routes arrive; how many channels they go over together, each route counted for each of its own; over
--- how many links the longest of them goes, 0 if none arrives; and the most that go over one channel.
+-- How many of these routes arrive.
+-- How many channels they go over together: a route counts once for each of its own.
+-- Over how many links the longest of them goes, 0 if none arrives.
+-- And the most of them that go over one channel.
 pub record AreMeasures (fabric : FabricOf) (tables : TablesOf) (of : Measured) : Type 0 where
   pub routes : IsCountOf (IsOneArriving fabric tables) of.routes
   pub hops : IsCountOf {A = Route × Channel} (λ pair. GoesOver fabric tables pair.1 pair.0) of.hops

@@ -28,18 +28,19 @@ pub record AreRouted (traffic : Traffic) (fabric : FabricOf) (written : List ℕ
   pub passes : Passes fabric tables traffic ranks
   pub text : IsTextOf fabric written tables
 
--- the words of the line that says how good tables are, that an end port and a LID are not joined, and that no tables
--- were found
+-- the words of the line that says how good tables are, ..
 abbrev pub measure_words : Measured → List (List ℕ)
 measure_words of =
     codes "fabric:" ∷ codes "routes" ∷ decimal of.routes ∷ codes "hops" ∷ decimal of.hops
     ∷ codes "longest" ∷ decimal of.longest ∷ codes "greatest" ∷ decimal of.greatest ∷ []
 
+-- .. that an end port and a LID are not joined, ..
 abbrev pub apart_words : (guid lid : ℕ) → List (List ℕ)
 apart_words guid lid =
     codes "fabric:" ∷ codes "no" ∷ codes "links" ∷ codes "join" ∷ guid_word guid ∷ codes "to" ∷ codes "lid"
     ∷ decimal lid ∷ []
 
+-- .. and that no tables were found
 abbrev pub none_words : List (List ℕ)
 none_words = codes "fabric:" ∷ codes "no" ∷ codes "tables" ∷ codes "found" ∷ []
 

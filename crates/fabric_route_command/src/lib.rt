@@ -11,7 +11,7 @@
 pub mod apart;
 pub mod end;
 pub mod law;
-pub mod loads;
+mod loads;
 pub mod measured;
 mod parts;
 pub mod route;

@@ -1,6 +1,7 @@
-//! How many routes between end ports of adapters and routers go over each channel.
+//! The routes between end ports of adapters and routers that arrive: how many there are, how long the longest is,
+//! and how many go over each channel.
 
-ghost use Rattle.std.specs.Prelude.{◌≡◌, ◌≢◌, ◌<◌, ◌≤◌, ◌+◌, ◌*◌, ◌^◌, ℕ, length, slice_index, slice_set, IfOk};
+ghost use Rattle.std.specs.Prelude.{◌≡◌, ◌≢◌, ◌<◌, ◌≤◌, ◌+◌, ◌*◌, ◌^◌, ◌-◌, ℕ, length, max, slice_index, slice_set, IfOk};
 ghost use Rattle.fabric_tables.specs.Cells.{TablesOf, tables_of};
 ghost use Rattle.fabric_counts.specs.Counts.{hop_for};
 ghost use Rattle.fabric_model.specs.Fabric.{FabricOf, IsFabric, switch_count};
@@ -9,7 +10,8 @@ ghost use Rattle.fabric_routes.specs.Found.{number};
 ghost use Rattle.fabric_routes.specs.declared.hop.Outcome.TheVariants.{Arrives};
 ghost use Rattle.fabric_model.specs.declared.traffic.Traffic.TheVariants.{Hosts};
 ghost use Rattle.fabric_routes.specs.Routes.{EndsAs, IsTarget};
-ghost use Rattle.fabric_route_command.specs.Loads.{AreAllLoads, AreHosts, AreHostsBelow, AreLoadsUntil, AreReady, AreRooms, IsFrom, IsHostAt, IsPlace};
+ghost use Rattle.fabric_route_command.specs.Loads.{AreAllLoads, AreHops, AreHosts, AreHostsBelow, AreLoadsAlong, AreLoadsUntil, AreReady, AreRooms};
+ghost use Rattle.fabric_route_command.specs.Loads.{IsFrom, IsHostAt, IsPlace};
 ghost use Rattle.fabric_route_command.specs.Measured.{IsGreatestLoad};
 
 use common_values::memory::OutOfMemory;
@@ -43,6 +45,20 @@ struct Rooms {
     marks: Vec<Mark>,
     // The switches of a route.
     path: Vec<u32>,
+    // What each switch does with what goes to the LID.
+    hops: Vec<Hop>,
+}
+
+// Puts what each switch does with what goes to a LID.
+fn put_hops(fabric: &Fabric, cells: &Cells, lid: u16, hops: &mut [Hop])
+    requires same { switch_count fabric.now ≡ cells.now.switches }
+    requires lid { lid < 64 * cells.now.blocks }
+    requires size { length hops.old ≡ switch_count fabric.now }
+    ensures { AreHops fabric.now (tables_of cells.now) lid hops.new }
+{
+    'switches: for switch in 0..fabric.switches() {
+        hops[switch] = hop_at(fabric, cells, switch, lid as usize);
+    }
 }
 
 // One end port more of those at each switch.
@@ -94,7 +110,8 @@ impl Rooms {
     {
         let marks = vec![in alloc; Mark::New; switches]?;
         let path = vec![in alloc; 0u32; switches]?;
-        Ok(Rooms { marks, path })
+        let hops = vec![in alloc; Hop::Arrive; switches]?;
+        Ok(Rooms { marks, path, hops })
     }
 }
 
@@ -130,14 +147,27 @@ impl Loads {
         self.hops += routes;
     }
 
-    // So many routes more, those to a LID from a switch, which arrive through so many switches.
+    // So many routes more, those to a LID from a switch, which arrive through so many switches. Their channels are not
+    // counted yet.
+    fn add_arrived(&mut self, switches: u32, routes: u64)
+        requires fits { self.old.routes + routes < 2 ^ 64 }
+        ensures routes { self.new.routes ≡ self.old.routes + routes }
+        ensures longest { self.new.longest ≡ max self.old.longest (switches - 1) }
+        ensures each { self.new.each.items ≡ self.old.each.items }
+        ensures hops { self.new.hops ≡ self.old.hops }
+    {
+        self.routes += routes;
+        self.longest = self.longest.max(switches.saturating_sub(1));
+    }
+
+    // The channels of so many routes more, those to a LID from a switch, which arrive.
     fn add_routes(
         &mut self,
         fabric: &Fabric,
         cells: &Cells,
         lid: u16,
+        hops: &[Hop],
         start: usize,
-        switches: u32,
         routes: u64,
     )
         requires same { switch_count fabric.now ≡ cells.now.switches }
@@ -145,17 +175,16 @@ impl Loads {
         requires few_switches { switch_count fabric.now ≤ 2 ^ 14 }
         requires start { start < switch_count fabric.now }
         requires routes { IsCountOf (IsFrom fabric.now (tables_of cells.now) lid start) routes }
-        requires some { 0 < routes }
         requires few { routes ≤ 2 ^ 16 }
-        requires arrive { EndsAs (hop_for fabric.now (tables_of cells.now) lid) start (Arrives switches) }
-        requires loads { AreLoadsUntil fabric.now (tables_of cells.now) lid start self.old }
+        requires hops { AreHops fabric.now (tables_of cells.now) lid hops.now }
+        requires arrive { (switches : ℕ)
+            × EndsAs (hop_for fabric.now (tables_of cells.now) lid) start (Arrives switches) }
+        requires loads { AreLoadsAlong fabric.now (tables_of cells.now) lid start 0 self.old }
         ensures { AreLoadsUntil fabric.now (tables_of cells.now) lid (start + 1) self.new }
     {
-        self.routes += routes;
-        self.longest = self.longest.max(switches.saturating_sub(1));
         let mut at = start;
         'hops: for _hops in 0..fabric.switches() {
-            match hop_at(fabric, cells, at, lid as usize) {
+            match hops[at] {
                 Hop::On(port, next) => {
                     self.add_to(fabric, at, port, routes);
                     at = next as usize;
@@ -192,7 +221,8 @@ impl Loads {
         }
         match end_from(fabric, cells, lid, &mut rooms.marks, &mut rooms.path, start) {
             Outcome::Arrives(switches) => {
-                self.add_routes(fabric, cells, lid, start, switches, routes);
+                self.add_arrived(switches, routes);
+                self.add_routes(fabric, cells, lid, &rooms.hops, start, routes);
             }
             Outcome::Stops(_) => {}
             Outcome::Loops => {}
@@ -223,6 +253,7 @@ impl Loads {
             return;
         }
         forget(&mut rooms.marks);
+        put_hops(fabric, cells, lid, &mut rooms.hops);
         'switches: for start in 0..fabric.switches() {
             let routes = count_senders(fabric, owner, start, hosts[start]);
             self.add_from(fabric, cells, lid, rooms, start, routes);

@@ -45,11 +45,12 @@ pub struct Given {
     pub line: Vec<u8>,
 }
 
-/// Answers `route`: reads a topology from its source to the end and makes tables for its fabric. Tables that
-/// pass for the traffic are written to out, with a line on err that says how good they are: empty ones if there
-/// are no switches. If there are none, out gains nothing, and the line says who is not joined to whom, or that
-/// no tables were found although all are joined. If the source is wrong, out is left alone, and the line says why. The answer is
-/// the number of how the call ended.
+/// Answers `route`: reads a topology from its source to the end and makes tables for its fabric.
+///
+/// Tables that pass for the traffic are written to out, with a line on err that says how good they are: empty ones if
+/// there are no switches. If none were found, out gains nothing, and the line says who is not joined to whom, or that all
+/// are joined. If the source is wrong, out is left alone, and the line says why. The answer is the number of how the
+/// call ended.
 pub fn route<T: Source, O: Sink, E: Sink>(
     alloc: Global,
     topology: &mut T,

@@ -5,11 +5,11 @@ use Rattle.fabric_routes.specs.declared.hop.Outcome.TheVariants.{Stops, Loops}
 use Rattle.fabric_model.specs.Fabric.{FabricOf}
 use Rattle.fabric_tables.specs.Cells.{TablesOf}
 use Rattle.fabric_route_command.specs.declared.loads.Loads.{Loads}
-use Rattle.fabric_route_command.specs.Loads.{AreLoadsUntil, IsFrom}
+use Rattle.fabric_route_command.specs.Loads.{AreLoadsUntil, IsAlong, IsFrom}
 use Rattle.fabric_route_command.specs.Measured.{IsOneArriving}
 use Rattle.fabric_route_command.proofs.GreatestLemmas.{no_more}
-use Rattle.fabric_route_command.proofs.LoadLemmas.{skipped}
-use Rattle.fabric_route_command.proofs.LongestLemmas.{arrived_skipped}
+use Rattle.fabric_route_command.proofs.LoadLemmas.{along_first, loads_alike, skipped}
+use Rattle.fabric_route_command.proofs.LongestLemmas.{arrived_more, arrived_skipped}
 use Rattle.fabric_route_command.proofs.UntilLemmas.{not_lost}
 use Rattle.fabric_route_command.proofs.loads.Loads.add_from.Goals as goal
 
@@ -42,3 +42,16 @@ returns-in-Loops-clause-loads c =
     let tables = tables_of c.args.cells.now in
     none_from fabric tables c.args.lid c.args.start c.args.self.now
     (not_lost fabric tables c.args.lid c.args.start Loops c.in-Loops.ensures.ends (λ switches same. absurd (cc))) c.requires.loads
+
+pub add_routes-requires-clause-loads : goal.add_routes-requires-clause-loads
+add_routes-requires-clause-loads c =
+    let fabric = c.args.fabric.now in
+    let tables = tables_of c.args.cells.now in
+    let old = c.args.self.now in
+    let new = c.add_arrived.new.self in
+    record {
+      exact = loads_alike fabric tables (IsAlong fabric tables c.args.lid c.args.start 0) old new c.add_arrived.ensures.each c.add_arrived.ensures.hops (along_first fabric tables c.args.lid c.args.start old c.requires.loads.exact);
+      arrived = arrived_more fabric tables c.args.lid c.args.start c.in-Arrives.switches c.args.routes c.in-Arrives.ensures.ends (let some = c.if-routes-eq0.false in omega arith) c.requires.routes old new c.add_arrived.ensures.routes c.add_arrived.ensures.longest c.requires.loads.arrived;
+      few = (let few = c.requires.loads.few in let same = c.add_arrived.ensures.hops in omega arith);
+      few_routes = (let few = c.requires.loads.few_routes in let less = c.requires.few in let more = c.add_arrived.ensures.routes in omega arith);
+    }

@@ -15,7 +15,7 @@ use Rattle.fabric_route_command.proofs.GreatestLemmas.{count_from, nobody_sends}
 use Rattle.fabric_route_command.proofs.LoadLemmas.{lid_done, lid_unsent}
 use Rattle.fabric_route_command.proofs.LongestLemmas.{arrived_lid, arrived_unsent}
 use Rattle.fabric_route_command.specs.declared.loads.Loads.{Loads}
-use Rattle.fabric_route_command.specs.Loads.{AreLoadsUntil}
+use Rattle.fabric_route_command.specs.Loads.{AreHops, AreLoadsUntil}
 use Rattle.fabric_route_command.proofs.loads.Loads.add_lid.Goals as goal
 
 -- nothing is sent to the LID
@@ -50,11 +50,13 @@ switches-init c =
     let fresh : new ≡ replicate (switch_count fabric) New = c.forget.ensures ∙ ap (λ (n : ℕ). let xs : List Mark = replicate n New in xs) before in
     let count : length new ≡ switch_count fabric = ap (λ (xs : List Mark). length xs) fresh ∙ length-replicate (switch_count fabric) New in
     let size : length new ≡ old.len = (let has = old.ok.0 in let is = c.requires.rooms.marks in omega arith) in
+    let put : length c.put_hops.new.hops ≡ c.args.rooms.now.hops.len = (let has = c.args.rooms.now.hops.ok.0 in let is = c.requires.rooms.hops in let size = c.put_hops.ensures.size in omega arith) in
     record {
       loads = c.requires.loads;
       rooms = record {
         ready = ready_new (hop_to fabric (tables_of c.args.cells.now) (whole c.args.lid)) (switch_count fabric) (switch_count fabric) (with_items old new).items refl (with_items_is old new size ∙ fresh);
         path = c.requires.rooms.path;
+        hops = subst (AreHops fabric (tables_of c.args.cells.now) c.args.lid) (sym (with_items_is c.args.rooms.now.hops c.put_hops.new.hops put)) c.put_hops.ensures;
       };
     }
 
