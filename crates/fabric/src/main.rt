@@ -10,16 +10,17 @@ use common_values::text::Word;
 use fabric_call::status::{Status, finish};
 use fabric_commands::fabric::fabric;
 use fabric_judge_call::input::Input;
-use fabric_judge_call::words::file_of;
+use fabric_judge_call::words::{call_of, file_of};
 use outside::standard::{StdSink, StdSource};
 use std::process::ExitCode;
 
 // Answers the words over the files that they name.
 fn answer(rt: &HostRuntime, words: &[Word]) -> u8 {
-    let mut topology = StdSource::new(Input::named(rt, rt.stdin(), file_of(words, 0)));
-    let mut tables = StdSource::new(Input::named(rt, rt.stdin(), file_of(words, 1)));
-    let mut third = StdSource::new(Input::named(rt, rt.stdin(), file_of(words, 2)));
-    let mut fourth = StdSource::new(Input::named(rt, rt.stdin(), file_of(words, 3)));
+    let call = call_of(words);
+    let mut topology = StdSource::new(Input::named(rt, rt.stdin(), file_of(words, call, 0)));
+    let mut tables = StdSource::new(Input::named(rt, rt.stdin(), file_of(words, call, 1)));
+    let mut third = StdSource::new(Input::named(rt, rt.stdin(), file_of(words, call, 2)));
+    let mut fourth = StdSource::new(Input::named(rt, rt.stdin(), file_of(words, call, 3)));
     let mut out = StdSink::new(rt.stdout());
     let mut err = StdSink::new(rt.stderr());
     fabric(

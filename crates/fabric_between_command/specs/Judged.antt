@@ -20,7 +20,7 @@ use Rattle.fabric_call.specs.declared.status.Status.TheVariants.{Ok, Cycle}
 use Rattle.fabric_judge_commands.specs.Judged.{IsRead}
 use Rattle.fabric_judge_commands.specs.Names.{names_for}
 use Rattle.fabric_between_command.specs.declared.lines.Between.{Between}
-use Rattle.fabric_between_command.specs.declared.lines.Turn.{Turn}
+use Rattle.fabric_between_command.specs.declared.lines.TurnTold.{TurnTold}
 use Rattle.fabric_between_command.specs.Lines.{between_text}
 
 -- What the statuses 0 and 8 mean: no channels that may follow one another lead round, as ranks of the channels show;
@@ -43,7 +43,7 @@ IsToldOf fabric old new (one ∷ rest) None = ⊥
 IsToldOf fabric old new (one ∷ rest) (Some looped) = IsLooped fabric old new looped
 
 -- a channel of a cycle, as an answer tells it
-abbrev pub turn_of : FabricOf → LoopChannel → Turn
+abbrev pub turn_of : FabricOf → LoopChannel → TurnTold
 turn_of fabric one =
     record {
       guid = guid_of fabric (Switch one.channel.switch);
@@ -54,11 +54,11 @@ turn_of fabric one =
     }
 
 -- the switches of a cycle, each once
-abbrev pub switches_of : List Turn → List ℕ
+abbrev pub switches_of : List TurnTold → List ℕ
 switches_of cycle = insert_all nat_eq [] (map (λ turn. turn.guid) cycle)
 
 -- each part of the answer
-pub record IsAnswerFor (text : List ℕ) (fabric : FabricOf) (old new : Tables) (answer : Between) : Type 0 where
+pub record IsBetweenAnswerFor (text : List ℕ) (fabric : FabricOf) (old new : Tables) (answer : Between) : Type 0 where
   pub read : IsRead fabric old answer.read
   pub rows : answer.new.rows ≡ new.rows
   pub unowned : answer.new.unowned ≡ new.unowned
@@ -77,5 +77,5 @@ pub record IsBetween (text : List ℕ) (fabric : FabricOf) (old new : Tables) (s
     : Type 0 where
   pub ends : IsEndOf fabric (tables_of old.cells) (tables_of new.cells) status
   pub answer : Between
-  pub is_answer : IsAnswerFor text fabric old new answer
+  pub is_answer : IsBetweenAnswerFor text fabric old new answer
   pub says : written ≡ between_text answer

@@ -10,7 +10,7 @@ use Rattle.fabric_mixtures.specs.declared.looped.Looped.TheVariants as looped
 use Rattle.fabric_print.specs.Answers.{Row, channels_row, guid_word, name_row, read_row, unset_rows}
 use Rattle.fabric_between_command.specs.declared.lines.Between.{Between}
 use Rattle.fabric_between_command.specs.declared.lines.NewRows.{NewRows}
-use Rattle.fabric_between_command.specs.declared.lines.Turn.{Turn}
+use Rattle.fabric_between_command.specs.declared.lines.TurnTold.{TurnTold}
 
 -- what was read of the new tables
 abbrev pub between_row : NewRows → Row
@@ -24,7 +24,7 @@ by_word New = codes "new"
 by_word Both = codes "both"
 
 -- a channel of the cycle, with the LID for which the next one may follow it, and by which tables each is taken
-abbrev pub turn_row : Turn → Row
+abbrev pub turn_row : TurnTold → Row
 turn_row turn =
     codes "channel" ∷ guid_word turn.guid ∷ decimal turn.port ∷ codes "lid" ∷ decimal turn.lid
     ∷ codes "by" ∷ by_word turn.by ∷ codes "then" ∷ by_word turn.next_by ∷ []
@@ -36,7 +36,7 @@ looped_word looped.New = codes "new"
 looped_word looped.Both = codes "both"
 looped_word looped.Mixture = codes "mixture"
 
-abbrev pub loop_rows : Option Looped → List Turn → List Row
+abbrev pub loop_rows : Option Looped → List TurnTold → List Row
 loop_rows None cycle = (codes "cycle" ∷ codes "none" ∷ []) ∷ []
 loop_rows (Some which) cycle =
     (codes "cycle" ∷ decimal (length cycle) ∷ []) ∷ (codes "looped" ∷ looped_word which ∷ []) ∷ map turn_row cycle

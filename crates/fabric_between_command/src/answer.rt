@@ -6,9 +6,9 @@ ghost use Rattle.fabric_model.specs.Fabric.{FabricOf};
 ghost use Rattle.fabric_read_tables.specs.Reads.{HasCells};
 ghost use Rattle.fabric_mixtures.specs.declared.judge.LoopChannel.{LoopChannel};
 ghost use Rattle.fabric_mixtures.specs.Verdict.{IsJudgement};
-ghost use Rattle.fabric_between_command.specs.Judged.{IsAnswerFor, IsBetween, IsEndOf, IsLoop, IsToldOf, switches_of, turn_of};
+ghost use Rattle.fabric_between_command.specs.Judged.{IsBetweenAnswerFor, IsBetween, IsEndOf, IsLoop, IsToldOf, switches_of, turn_of};
 
-use crate::lines::{Between, NewRows, Turn, print_between};
+use crate::lines::{Between, NewRows, TurnTold, print_between};
 use common_values::memory::OutOfMemory;
 use fabric_call::command::Given;
 use fabric_call::input::Topology;
@@ -70,7 +70,7 @@ fn answer_for(
     requires old { HasCells topology.now.fabric old.now }
     requires new { HasCells topology.now.fabric new.now }
     requires judged { IsJudgement topology.now.fabric (tables_of old.now.cells) (tables_of new.now.cells) judged.now }
-    ensures { IfOk result (IsAnswerFor topology.now.text.items topology.now.fabric old.now new.now) }
+    ensures { IfOk result (IsBetweenAnswerFor topology.now.text.items topology.now.fabric old.now new.now) }
 {
     let fabric = &topology.fabric;
     let links = count_links(fabric);
@@ -121,7 +121,11 @@ fn looped_of(judged: &Judgement) -> Option<Looped>
 }
 
 // The channels of a cycle, as an answer tells them.
-fn turns_of(alloc: Global, fabric: &Fabric, cycle: &[LoopChannel]) -> Result<Vec<Turn>, OutOfMemory>
+fn turns_of(
+    alloc: Global,
+    fabric: &Fabric,
+    cycle: &[LoopChannel],
+) -> Result<Vec<TurnTold>, OutOfMemory>
     ensures { IfOk result (λ turns. turns.items ≡ map (turn_of fabric.now) cycle.now) }
 {
     let mut turns = Vec::with_capacity(alloc, cycle.len())?;
@@ -132,10 +136,10 @@ fn turns_of(alloc: Global, fabric: &Fabric, cycle: &[LoopChannel]) -> Result<Vec
 }
 
 // The same of one channel.
-fn turn_of(fabric: &Fabric, one: LoopChannel) -> Turn
+fn turn_of(fabric: &Fabric, one: LoopChannel) -> TurnTold
     ensures { result ≡ turn_of fabric.now one }
 {
-    Turn {
+    TurnTold {
         guid: fabric.guid(EndPort::Switch(one.channel.switch)),
         port: one.channel.port,
         lid: one.turn.lid,
@@ -145,7 +149,7 @@ fn turn_of(fabric: &Fabric, one: LoopChannel) -> Turn
 }
 
 // The switches of a cycle.
-fn switches_of(alloc: Global, cycle: &[Turn]) -> Result<IndexSet<u64>, OutOfMemory>
+fn switches_of(alloc: Global, cycle: &[TurnTold]) -> Result<IndexSet<u64>, OutOfMemory>
     ensures { IfOk result (λ switches. switches.keys ≡ switches_of cycle.now) }
 {
     let mut switches = IndexSet::new(alloc);

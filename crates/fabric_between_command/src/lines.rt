@@ -15,7 +15,7 @@ use std::alloc::Global;
 
 /// A channel of a cycle, and by what the next one may follow it.
 #[derive(Clone, Copy)]
-pub struct Turn {
+pub struct TurnTold {
     /// The GUID of the switch of the channel.
     pub guid: u64,
     /// The port of the channel.
@@ -53,7 +53,7 @@ pub struct Between {
     /// Which of the two tables have a cycle by them alone, or none if they have none together.
     pub looped: Option<Looped>,
     /// The channels of the least cycle, or none if no cycle exists.
-    pub cycle: Vec<Turn>,
+    pub cycle: Vec<TurnTold>,
     /// How many switches and end ports of the topology say that their base LID is 65535.
     pub unset: u64,
     /// The names of the nodes above.
@@ -107,7 +107,7 @@ fn push_loop(
     alloc: Global,
     text: &mut Vec<u8>,
     looped: Option<Looped>,
-    cycle: &[Turn],
+    cycle: &[TurnTold],
 ) -> Result<(), OutOfMemory>
     ensures { OnOk result (text.new.items ≡ text.old.items ++ lines_text (loop_rows looped cycle.now)) }
 {
@@ -135,7 +135,7 @@ fn looped_word(looped: Looped) -> &'static str
     }
 }
 
-impl HasRow for Turn {
+impl HasRow for TurnTold {
     ghost use Rattle.fabric_between_command.specs.Lines.{turn_row};
 
     ghost words = { turn_row };

@@ -55,8 +55,8 @@ pub record IsBetweenAnswerOf (has has' : More) (old new : Streams) (answer : ℕ
       (sources new.read.topology new.read.tables has'.third) old.out new.out old.err new.err answer
 
 -- a command that reads a topology and tables leaves the other sources alone
-abbrev pub IsAnswerFor : Gives → (has has' : More) → (old new : Streams) → ℕ → Type 0
-IsAnswerFor gives has has' old new answer = (has' ≡ has) × IsAnswer gives old new answer
+abbrev pub IsPlainAnswer : Gives → (has has' : More) → (old new : Streams) → ℕ → Type 0
+IsPlainAnswer gives has has' old new answer = (has' ≡ has) × IsAnswer gives old new answer
 
 -- the answer of a task, by the words of a call and what they say
 abbrev pub IsAnswerOf : Task → List (List ℕ) → Call → (has has' : More) → (old new : Streams) → ℕ → Type 0
@@ -64,9 +64,9 @@ IsAnswerOf (Answer question) words call has has' old new answer =
     (has'.fourth ≡ has.fourth) × IsAnswerToQuestion question call.traffic has.third has'.third old new answer
 IsAnswerOf Route words call has has' old new answer = IsRouteAnswerOf call.traffic has has' old new answer
 IsAnswerOf Repair words call has has' old new answer =
-    IsAnswerFor (gives_repair call.traffic) has has' old new answer
+    IsPlainAnswer (gives_repair call.traffic) has has' old new answer
 IsAnswerOf Repaired words call has has' old new answer =
-    IsAnswerFor (gives_repaired call.traffic) has has' old new answer
+    IsPlainAnswer (gives_repaired call.traffic) has has' old new answer
 IsAnswerOf Lanes words call has has' old new answer =
     IsLanesAnswerOf (IsLaneJudged call.traffic) words call has has' old new answer
 IsAnswerOf LanesDot words call has has' old new answer =

@@ -21,7 +21,7 @@ use outside::sink::Sink;
 use outside::source::Source;
 use std::alloc::Global;
 
-// The levels for which the words of a call ask: the last one of four files names them.
+// The levels for which the words of a call ask: the last one of four files names them. Of other calls they mean nothing.
 fn asked_for(words: &[Word], call: Call) -> Asked
     requires { IfSome call.silent (λ level. level < 16) }
     ensures named { (word : List ℕ) → slice_get words.now (slice_index call.files 3) ≡ Some word
@@ -80,32 +80,21 @@ pub fn fabric<T: Source, S: Source, R: Source, L: Source, O: Sink, E: Sink>(
         return finish(err, Status::Usage);
     };
     let traffic = call.traffic;
+    let repaired = RepairedTables { traffic };
+    let asked = asked_for(words, call);
     match call.task {
         Task::Answer(question) => {
             answer_question(alloc, topology, tables, third, out, err, question, traffic)
         }
         Task::Route => route(alloc, topology, out, err, traffic),
         Task::Repair => answer(&Repair { traffic }, alloc, topology, tables, out, err),
-        Task::Repaired => answer(
-            &RepairedTables { traffic },
-            alloc,
-            topology,
-            tables,
-            out,
-            err,
+        Task::Repaired => answer(&repaired, alloc, topology, tables, out, err),
+        Task::Lanes => lanes(
+            alloc, topology, tables, third, fourth, asked, out, err, traffic,
         ),
-        Task::Lanes => {
-            let asked = asked_for(words, call);
-            lanes(
-                alloc, topology, tables, third, fourth, asked, out, err, traffic,
-            )
-        }
-        Task::LanesDot => {
-            let asked = asked_for(words, call);
-            draw_lanes(
-                alloc, topology, tables, third, fourth, asked, out, err, traffic,
-            )
-        }
+        Task::LanesDot => draw_lanes(
+            alloc, topology, tables, third, fourth, asked, out, err, traffic,
+        ),
         Task::Between => between(alloc, topology, tables, third, out, err),
     }
 }

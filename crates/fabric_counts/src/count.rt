@@ -180,26 +180,17 @@ fn count_lid(
     if let Audience::Nobody = audience {
         return counts;
     }
-    match longest_to(
-        fabric,
-        cells,
-        lid,
-        starts,
-        &mut rooms.heights,
-        &mut rooms.path,
-    ) {
+    let Rooms {
+        heights,
+        marks,
+        path,
+    } = rooms;
+    match longest_to(fabric, cells, lid, starts, heights, path) {
         Some(hops) => {
             let senders = count_senders(fabric, audience, lid as usize, heard);
             counts.with_arrived(fabric, lid, senders, hops)
         }
-        None => counts.with_sources(
-            fabric,
-            cells,
-            traffic,
-            lid,
-            &mut rooms.marks,
-            &mut rooms.path,
-        ),
+        None => counts.with_sources(fabric, cells, traffic, lid, marks, path),
     }
 }
 

@@ -16,9 +16,10 @@ use std::process::ExitCode;
 
 // Answers the words over the files that they name.
 fn answer(rt: &HostRuntime, words: &[Word]) -> u8 {
-    let mut topology = StdSource::new(Input::named(rt, rt.stdin(), file_of(words, 0)));
-    let mut tables = StdSource::new(Input::named(rt, rt.stdin(), file_of(words, 1)));
-    let mut ranks = StdSource::new(Input::named(rt, rt.stdin(), file_of(words, 2)));
+    let call = call_of(words);
+    let mut topology = StdSource::new(Input::named(rt, rt.stdin(), file_of(words, call, 0)));
+    let mut tables = StdSource::new(Input::named(rt, rt.stdin(), file_of(words, call, 1)));
+    let mut ranks = StdSource::new(Input::named(rt, rt.stdin(), file_of(words, call, 2)));
     let mut out = StdSink::new(rt.stdout());
     let mut err = StdSink::new(rt.stderr());
     let Some(
@@ -27,7 +28,7 @@ fn answer(rt: &HostRuntime, words: &[Word]) -> u8 {
             traffic,
             ..
         },
-    ) = call_of(words)
+    ) = call
     else {
         return finish(&mut err, Status::Usage);
     };

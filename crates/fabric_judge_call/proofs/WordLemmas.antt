@@ -1,5 +1,5 @@
 -- Words are those of one call at most.
-use Rattle.std.proofs.Common.{◌≡◌, ◌≢◌, ◌∙◌, sym, ap, subst, refl, ℕ, suc, ◌+◌, ◌<◌, ◌≤◌, List, [], ◌∷◌, ◌++◌, Bool, cond, eqb, ltb, length, get_or, drop, drop-cons, add-one, Option, Some, None, arith}
+use Rattle.std.proofs.Common.{◌≡◌, ◌∙◌, sym, ap, subst, refl, ℕ, ◌+◌, ◌<◌, ◌≤◌, List, [], ◌∷◌, Bool, cond, eqb, ltb, length, get_or, drop, drop-cons, add-one, Option, Some, None, arith}
 use Rattle.std.specs.Prelude.{MatchOption, slice_index}
 use Rattle.std.specs.Option.{option_and_then}
 use Rattle.std.proofs.lemmas.Bool.{le-ltb, lt-ltb}
@@ -10,7 +10,9 @@ use Rattle.fabric_judge_call.specs.declared.words.Task.{Task}
 use Rattle.fabric_judge_call.specs.declared.words.Task.TheVariants.{Answer, Route, Repair, Repaired, Lanes, LanesDot, Between}
 use Rattle.fabric_judge_call.specs.declared.words.Question.TheVariants.{Judge, Ranks, Verify, Dot}
 use Rattle.fabric_judge_call.specs.declared.words.Call.{Call}
-use Rattle.fabric_judge_call.specs.Said.{after, nothing_said, say}
+use Rattle.fabric_judge_call.specs.Arguments.{AreSaid}
+use Rattle.fabric_judge_call.specs.Steps.{after_word, is_ended, say}
+use Rattle.fabric_judge_call.proofs.SaidLemmas.{bare, one_said}
 use Rattle.fabric_judge_call.specs.Words.{AreNoCall, FitsCount, IsCall, settled, task_word}
 
 -- the words of tasks differ in the sum of two letters and of their length, and those with one word in how many follow
@@ -42,33 +44,33 @@ cut : (words : List (List ℕ)) (first : List ℕ) → 0 < length words → word
 cut [] first some = absurd (omega arith)
 cut (word ∷ rest) first some = ap (λ (r : List (List ℕ)). word ∷ r) (sym (drop_at (word ∷ []) rest 1 refl))
 
-cut_at : (words : List (List ℕ)) (place : ℕ) → place < length words → drop place words ≡ get_or words place [] ∷ drop (place + 1) words
-cut_at words place low = rw (add-one, drop-cons words place [])
-
--- what words say, by the next one
-pub said_on : (words : List (List ℕ)) (said next : Said) (place : ℕ) → place < length words → after said.part said place (get_or words place []) ≡ Some next → say said place (drop place words) ≡ say next (place + 1) (drop (place + 1) words)
-said_on words said next place low is =
-    ap (say said place) (cut_at words place low)
+-- what words say, if the next one is wrong, and if there is none
+pub said_off : (words : List (List ℕ)) (said : Said) (place : ℕ) (word : List ℕ) → place < length words → word ≡ get_or words place word → after_word said.part said place word ≡ None → say said place (drop place words) ≡ None
+said_off words said place word low at is =
+    let here : drop place words ≡ get_or words place word ∷ drop (place + 1) words = rw (add-one, drop-cons words place word) refl in
+    ap (say said place) (here ∙ ap (λ (w : List ℕ). w ∷ drop (place + 1) words) (sym at))
     ∙ ap (λ (o : Option Said). option_and_then (λ (s : Said). say s (place + 1) (drop (place + 1) words)) o) is
 
-pub said_off : (words : List (List ℕ)) (said : Said) (place : ℕ) → place < length words → after said.part said place (get_or words place []) ≡ None → say said place (drop place words) ≡ None
-said_off words said place low is =
-    ap (say said place) (cut_at words place low)
-    ∙ ap (λ (o : Option Said). option_and_then (λ (s : Said). say s (place + 1) (drop (place + 1) words)) o) is
-
-pub said_all : (words : List (List ℕ)) (said : Said) (place : ℕ) → length words ≤ place → say said place (drop place words) ≡ Some said
+pub said_all : (words : List (List ℕ)) (said : Said) (place : ℕ) → length words ≤ place → say said place (drop place words) ≡ cond (is_ended said.part) (Some said) None
 said_all words said place past = ap (say said place) (drop_all place words past)
+
+-- a call does not depend on the rest of what is read
+settled_bare : (words : List (List ℕ)) (task : Task) (said : Said) → settled words task said ≡ settled words task (bare said)
+settled_bare words (Answer question) said = refl
+settled_bare words Route said = refl
+settled_bare words Repair said = refl
+settled_bare words Repaired said = refl
+settled_bare words Lanes said = refl
+settled_bare words LanesDot said = refl
+settled_bare words Between said = refl
 
 -- of a call
 module _ (words : List (List ℕ)) (call : Call) (is : IsCall words call) where
   some_words : 0 < length words
   some_words = omega (arith, ap (λ (ws : List (List ℕ)). length ws) is.are)
 
-  rest_is : drop 1 words ≡ is.rest
-  rest_is = ap (drop 1) is.are ∙ drop_at (task_word is.task ∷ []) is.rest 1 refl
-
-  said_is : say nothing_said 1 (drop 1 words) ≡ Some is.said
-  said_is = ap (say nothing_said 1) rest_is ∙ is.says
+  says_it : AreSaid (drop 1 words) is.said
+  says_it = subst (λ (ws : List (List ℕ)). AreSaid ws is.said) (sym (ap (drop 1) is.are ∙ drop_at (task_word is.task ∷ []) is.rest 1 refl)) is.says
 
   word_is : (first : List ℕ) → first ≡ get_or words 0 first → first ≡ task_word is.task
   word_is first at = at ∙ ap (λ (ws : List (List ℕ)). get_or ws 0 first) is.are
@@ -76,13 +78,13 @@ module _ (words : List (List ℕ)) (call : Call) (is : IsCall words call) where
 pub no_words : (words : List (List ℕ)) → length words ≡ 0 → AreNoCall words
 no_words words none call is = let some = some_words words call is in absurd (omega arith)
 
-pub no_said : (words : List (List ℕ)) → say nothing_said 1 (drop 1 words) ≡ None → AreNoCall words
-no_said words none call is = none-some is.said (sym none ∙ said_is words call is)
+pub no_said : (words : List (List ℕ)) → ((said : Said) → ¬ AreSaid (drop 1 words) said) → AreNoCall words
+no_said words none call is = none is.said (says_it words call is)
 
 -- by the first word, and what the others say
-module _ (words : List (List ℕ)) (first : List ℕ) (at : first ≡ get_or words 0 first) (some : 0 < length words) (said : Said) (says : say nothing_said 1 (drop 1 words) ≡ Some said) where
-  same_said : (call : Call) (is : IsCall words call) → is.said ≡ said
-  same_said call is = same_Some is.said said (sym (said_is words call is) ∙ says)
+module _ (words : List (List ℕ)) (first : List ℕ) (at : first ≡ get_or words 0 first) (some : 0 < length words) (said : Said) (says : AreSaid (drop 1 words) said) where
+  same_said : (call : Call) (is : IsCall words call) → bare is.said ≡ bare said
+  same_said call is = one_said (drop 1 words) is.said said (says_it words call is) says
 
   pub no_task : ((task : Task) → first ≡ task_word task → FitsCount task said.count → ⊥) → AreNoCall words
   no_task none call is = none is.task (word_is words call is first at) (subst (λ (s : Said). FitsCount is.task s.count) (same_said call is) is.fits)
@@ -92,7 +94,7 @@ module _ (words : List (List ℕ)) (first : List ℕ) (at : first ≡ get_or wor
     same_task call is = one_task is.task task said.count (subst (λ (s : Said). FitsCount is.task s.count) (same_said call is) is.fits) fits (sym (word_is words call is first at) ∙ is_task)
 
     pub settled_as : (call : Call) → IsCall words call → settled words task said ≡ Some call
-    settled_as call is = sym (ap (λ (t : Task). settled words t is.said) (same_task call is) ∙ ap (settled words task) (same_said call is)) ∙ is.is
+    settled_as call is = sym (ap (λ (t : Task). settled words t is.said) (same_task call is) ∙ settled_bare words task is.said ∙ ap (settled words task) (same_said call is) ∙ sym (settled_bare words task said)) ∙ is.is
 
     pub no_call : settled words task said ≡ None → AreNoCall words
     no_call none call is = none-some call (sym none ∙ settled_as call is)
@@ -120,4 +122,4 @@ one_call words one other is too =
     let at : get_or words 0 [] ≡ get_or words 0 (get_or words 0 []) = ap (λ (ws : List (List ℕ)). get_or ws 0 []) is.are ∙ sym (ap (λ (ws : List (List ℕ)). get_or ws 0 (get_or words 0 [])) is.are) in
     let some = some_words words one is in
     let word : get_or words 0 [] ≡ task_word is.task = ap (λ (ws : List (List ℕ)). get_or ws 0 []) is.are in
-    same_Some one other (sym is.is ∙ settled_as words first at some is.said (said_is words one is) is.task word is.fits other too)
+    same_Some one other (sym is.is ∙ settled_as words first at some is.said (says_it words one is) is.task word is.fits other too)

@@ -25,7 +25,7 @@ ranks_unread_as (no_input.TooLong line) = RanksTooLong line
 ranks_unread_as no_input.OutOfMemory = OutOfMemory
 
 -- `verify` reads the source of ranks to its end before the other sources; or it did not, and these are left alone
-pub record IsRead (traffic : Traffic) (ranks ranks' : Seen) (old new : Streams) (answer : ℕ) : Type 0 where
+pub record AreRanksRead (traffic : Traffic) (ranks ranks' : Seen) (old new : Streams) (answer : ℕ) : Type 0 where
   pub bytes : List ℕ
   pub read : IsInput ranks_limit (λ input. input ≡ bytes) ranks ranks'
   pub answers : IsAnswer (gives_verified traffic bytes) old new answer
@@ -38,7 +38,7 @@ pub record IsNotRead (ranks ranks' : Seen) (old new : Streams) (answer : ℕ) : 
   pub told : IsToldOf old.err new.err (ranks_unread_as why) answer
 
 pub data IsVerifyAnswer (traffic : Traffic) (ranks ranks' : Seen) (old new : Streams) (answer : ℕ) : Type 0 where
-  read : IsRead traffic ranks ranks' old new answer → IsVerifyAnswer traffic ranks ranks' old new answer
+  read : AreRanksRead traffic ranks ranks' old new answer → IsVerifyAnswer traffic ranks ranks' old new answer
   not_read : IsNotRead ranks ranks' old new answer → IsVerifyAnswer traffic ranks ranks' old new answer
 
 -- the answer to a question

@@ -1,18 +1,17 @@
 -- The words of a call.
 
-use Rattle.std.specs.Prelude.{◌≡◌, ◌==◌, ◌&&◌, ◌+◌, ◌<◌, ◌≤◌, ℕ, Bool, true, false, not, List, ◌∷◌, Option, Some, None, codes, if◌then◌else◌, is_none, nat_lt, slice_get, slice_index, unwrap_or, ⊤}
+use Rattle.std.specs.Prelude.{◌≡◌, ◌==◌, ◌&&◌, ◌+◌, ◌<◌, ◌≤◌, ℕ, Bool, true, not, List, ◌∷◌, Option, Some, None, codes, if◌then◌else◌, is_none, nat_lt, slice_get, slice_index, unwrap_or, ⊤}
 use Rattle.std.specs.Option.{option_and_then}
 use Rattle.fabric_model.specs.declared.traffic.Traffic.{Traffic}
 use Rattle.fabric_model.specs.declared.traffic.Traffic.TheVariants.{Hosts}
-use Rattle.fabric_judge_call.specs.declared.said.Part.{Part}
-use Rattle.fabric_judge_call.specs.declared.said.Part.TheVariants.{Any, Of, Files}
 use Rattle.fabric_judge_call.specs.declared.said.Said.{Said}
 use Rattle.fabric_judge_call.specs.declared.words.Task.{Task}
 use Rattle.fabric_judge_call.specs.declared.words.Task.TheVariants.{Answer, Route, Repair, Repaired, Lanes, LanesDot, Between}
 use Rattle.fabric_judge_call.specs.declared.words.Question.{Question}
 use Rattle.fabric_judge_call.specs.declared.words.Question.TheVariants.{Judge, Ranks, Verify, Dot}
 use Rattle.fabric_judge_call.specs.declared.words.Call.{Call}
-use Rattle.fabric_judge_call.specs.Said.{nothing_said, say, traffic_named}
+use Rattle.fabric_judge_call.specs.Arguments.{AreSaid}
+use Rattle.fabric_judge_call.specs.Said.{traffic_named}
 
 -- the word of a task
 abbrev pub question_word : Question → List ℕ
@@ -76,12 +75,6 @@ abbrev pub is_level : Option ℕ → Bool
 is_level None = true
 is_level (Some level) = nat_lt level 16
 
--- no option lacks its value
-abbrev pub is_ended : Part → Bool
-is_ended Any = true
-is_ended Files = true
-is_ended (Of name) = false
-
 -- the call of a task by what is said, if it is one: replies count if nothing else is said
 abbrev pub call_with : Task → Said → Option Traffic → Option Call
 call_with task said None = None
@@ -96,7 +89,7 @@ call_with task said (Some traffic) =
 
 abbrev pub settled : List (List ℕ) → Task → Said → Option Call
 settled words task said =
-    if is_ended said.part && (may_say task said && is_level said.silent)
+    if may_say task said && is_level said.silent
     then call_with task said (traffic_for words (file_count task) said) else None
 
 -- words are a call: the word of its task, and words that say the rest
@@ -105,9 +98,15 @@ pub record IsCall (words : List (List ℕ)) (call : Call) : Type 0 where
   pub rest : List (List ℕ)
   pub are : words ≡ task_word task ∷ rest
   pub said : Said
-  pub says : say nothing_said 1 rest ≡ Some said
+  pub says : AreSaid rest said
   pub fits : FitsCount task said.count
   pub is : settled words task said ≡ Some call
 
 abbrev pub AreNoCall : List (List ℕ) → Type 0
 AreNoCall words = (call : Call) → ¬ IsCall words call
+
+-- the word of a file of a call, the first one as 0
+abbrev pub IsFileOf : List (List ℕ) → (file : ℕ) → (word : List ℕ) → Type 0
+IsFileOf words file word =
+    (call : Call) × IsCall words call × (file < file_count call.task)
+    × (slice_get words (slice_index call.files file) ≡ Some word)

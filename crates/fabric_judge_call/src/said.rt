@@ -1,8 +1,10 @@
 //! What the words after that of a command say.
 
 ghost use Rattle.std.specs.Prelude.{◌≡◌, MatchOption, None, Some, codes, drop};
-ghost use Rattle.fabric_judge_call.specs.Said.{after, is_plain, is_standard, named, nothing_said, number_named, replies_named};
-ghost use Rattle.fabric_judge_call.specs.Said.{rest_of, say, traffic_named, with_file, with_value, with_word};
+ghost use Rattle.fabric_judge_call.specs.Said.{is_lone, is_standard, number_named, option_named, replies_named, rest_of, traffic_named};
+ghost use Rattle.fabric_judge_call.specs.Arguments.{AreSaid};
+ghost use Rattle.fabric_judge_call.specs.declared.said.Said.{Said};
+ghost use Rattle.fabric_judge_call.specs.Steps.{after_word, is_ended, nothing_said, with_file, with_value, with_word};
 
 use common_lines::word::{is, number_between};
 use common_values::text::Word;
@@ -78,8 +80,8 @@ pub fn is_standard(word: &[u8]) -> bool
 }
 
 // The option that a word is.
-fn named(word: &[u8]) -> Option<Name>
-    ensures { result ≡ named word.now }
+fn option_named(word: &[u8]) -> Option<Name>
+    ensures { result ≡ option_named word.now }
 {
     if is(word, "-t") || is(word, "--traffic") {
         return Some(Name::Traffic);
@@ -169,7 +171,7 @@ fn with_value(said: Said, name: Name, value: &[u8]) -> Option<Said>
     Some(more)
 }
 
-// .. with a file.
+// What is said with a file.
 fn with_file(said: Said, place: usize, word: &[u8]) -> Option<Said>
     ensures { result ≡ with_file said place word.now }
 {
@@ -184,9 +186,9 @@ fn with_file(said: Said, place: usize, word: &[u8]) -> Option<Said>
     Some(more)
 }
 
-// Whether a word is no option.
-fn is_plain(word: &[u8]) -> bool
-    ensures { result ≡ is_plain (rest_of (codes "-") word.now) }
+// Whether a word may be a file.
+fn is_lone(word: &[u8]) -> bool
+    ensures { result ≡ is_lone (rest_of (codes "-") word.now) }
 {
     match rest_of(word, b"-") {
         None => true,
@@ -194,11 +196,11 @@ fn is_plain(word: &[u8]) -> bool
     }
 }
 
-// .. with a word that may be an option, or a file.
+// What is said with a word that may be an option, or a file.
 fn with_word(said: Said, place: usize, word: &[u8]) -> Option<Said>
-    ensures { result ≡ with_word said place word.now (named word.now) }
+    ensures { result ≡ with_word said place word.now (option_named word.now) }
 {
-    if let Some(name) = named(word) {
+    if let Some(name) = option_named(word) {
         let mut more = said;
         more.part = Part::Of(name);
         return Some(more);
@@ -212,15 +214,15 @@ fn with_word(said: Said, place: usize, word: &[u8]) -> Option<Said>
     if let Some(value) = rest_of(word, b"--silent=") {
         return with_value(said, Name::Silent, value);
     }
-    if is_plain(word) {
+    if is_lone(word) {
         return with_file(said, place, word);
     }
     None
 }
 
-// .. with a word after all others.
-fn after(said: Said, place: usize, word: &[u8]) -> Option<Said>
-    ensures { result ≡ after said.part said place word.now }
+// What is said with a word after all others.
+fn after_word(said: Said, place: usize, word: &[u8]) -> Option<Said>
+    ensures { result ≡ after_word said.part said place word.now }
 {
     let mut more = said;
     match said.part {
@@ -239,13 +241,29 @@ fn after(said: Said, place: usize, word: &[u8]) -> Option<Said>
     }
 }
 
-/// What words say after the first, which is that of a command.
+// Whether no option lacks its value.
+fn is_ended(part: Part) -> bool
+    ensures { result ≡ is_ended part }
+{
+    match part {
+        Part::Any => true,
+        Part::Files => true,
+        Part::Of(_) => false,
+    }
+}
+
+/// What words say after the first, which is that of a command; none if they are not options with their values, and files,
+/// if an option is said twice, or if there are more than five files, or two that are standard input.
 pub fn said_by(words: &[Word]) -> Option<Said>
-    ensures { result ≡ say nothing_said 1 (drop 1 words.now) }
+    ensures { MatchOption result ((said : Said) → ¬ AreSaid (drop 1 words.now) said) (AreSaid (drop 1 words.now)) }
 {
     let mut said = nothing();
     'words: for place in 1..words.len() {
-        said = after(said, place, words[place].as_bytes())?;
+        said = after_word(said, place, words[place].as_bytes())?;
     }
-    Some(said)
+    if is_ended(said.part) {
+        Some(said)
+    } else {
+        None
+    }
 }

@@ -1,11 +1,11 @@
 //! The words of a call of `fabric`.
 
-ghost use Rattle.std.specs.Prelude.{◌≡◌, ◌≢◌, ◌<◌, ◌↔◌, IfSome, IsTrue, MatchOption, Some, codes, slice_get, slice_index};
-ghost use Rattle.fabric_judge_call.specs.Words.{AreNoCall, FitsCount, IsCall, file_count, has_no_levels, is_ended, is_level, may_say};
+ghost use Rattle.std.specs.Prelude.{◌≡◌, ◌≢◌, ◌<◌, ◌≤◌, ◌↔◌, IfSome, IsTrue, MatchOption, codes};
+ghost use Rattle.fabric_judge_call.specs.Words.{AreNoCall, FitsCount, IsCall, IsFileOf, file_count, has_no_levels, is_level, may_say};
 ghost use Rattle.fabric_judge_call.specs.Words.{settled, task_word, traffic_at, traffic_for};
 ghost use Rattle.fabric_judge_call.specs.declared.words.Call.{Call};
 
-use crate::said::{MOST_FILES, Part, Said, said_by, traffic_named};
+use crate::said::{MOST_FILES, Said, said_by, traffic_named};
 use common_values::text::Word;
 use fabric_model::traffic::Traffic;
 
@@ -44,9 +44,9 @@ pub enum Task {
 /// A call.
 #[derive(Clone, Copy)]
 pub struct Call {
-    /// What is to be done ..
+    /// What is to be done.
     pub task: Task,
-    /// .. for the routes of this traffic.
+    /// The traffic of which routes are judged, or made.
     pub traffic: Traffic,
     /// Whether a reply has the service level of its request.
     pub replies: bool,
@@ -182,23 +182,12 @@ fn is_level(silent: Option<u8>) -> bool
     }
 }
 
-// Whether no option lacks its value.
-fn is_ended(part: Part) -> bool
-    ensures { result ≡ is_ended part }
-{
-    match part {
-        Part::Any => true,
-        Part::Files => true,
-        Part::Of(_) => false,
-    }
-}
-
 // The call of a task by what is said, if it is one.
 fn settled(words: &[Word], task: Task, said: Said) -> Option<Call>
     ensures call { result ≡ settled words.now task said }
     ensures low { IfSome result (λ call. IfSome call.silent (λ level. level < 16)) }
 {
-    if !is_ended(said.part) || !may_say(task, said) || !is_level(said.silent) {
+    if !may_say(task, said) || !is_level(said.silent) {
         return None;
     }
     let traffic = traffic_for(words, file_count(task), said)?;
@@ -237,12 +226,14 @@ pub fn call_of(words: &[Word]) -> Option<Call>
     settled(words, task, said)
 }
 
-/// The word of a file of a call, the first one as 0; none if there is no such file, or the words are no call.
-pub fn file_of(words: &[Word], file: usize) -> Option<&Word>
-    ensures { IfSome result (λ word. (call : Call) → IsCall words.now call → file < file_count call.task
-        × (slice_get words.now (slice_index call.files file) ≡ Some word.now)) }
+/// The word of a file of the call that words are, the first one as 0; none if there is no such file, or the words are no
+/// call.
+pub fn file_of(words: &[Word], call: Option<Call>, file: usize) -> Option<&Word>
+    requires { MatchOption call (AreNoCall words.now) (IsCall words.now) }
+    ensures { MatchOption result ((call : Call) → IsCall words.now call → file_count call.task ≤ file)
+        (λ word. IsFileOf words.now file word.now) }
 {
-    let call = call_of(words)?;
+    let call = call?;
     if file >= file_count(call.task) {
         return None;
     }

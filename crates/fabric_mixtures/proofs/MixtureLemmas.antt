@@ -1,15 +1,15 @@
 -- What mixtures of two tables do.
-use Rattle.std.proofs.Common.{◌≡◌, ◌≢◌, ◌∙◌, ◌+◌, sym, ap, refl, ℕ, zero, suc, Bool, true, false, cond, eqb, Option, None, arith, inl, inr, ◌⊎◌}
+use Rattle.std.proofs.Common.{◌≡◌, ◌≢◌, ◌∙◌, ◌+◌, sym, ap, refl, ℕ, zero, suc, Bool, true, false, cond, eqb, Option, Some, None, ◌<◌, arith, inl, inr, ◌⊎◌}
 use Rattle.std.proofs.lemmas.Bool.Decides.{nat_tests}
 use Rattle.common_graph.specs.Cycles.{HasNoCycle}
 use Rattle.common_graph.proofs.PathLemmas.{more_steps}
-use Rattle.fabric_tables.specs.Cells.{TablesOf}
+use Rattle.fabric_tables.specs.Cells.{HasRow, TablesOf}
 use Rattle.fabric_model.specs.declared.node.EndPort.TheVariants as port
-use Rattle.fabric_model.specs.Fabric.{FabricOf}
+use Rattle.fabric_model.specs.Fabric.{FabricOf, owner_of, switch_count}
 use Rattle.fabric_routes.specs.declared.hop.Hop.TheVariants.{On}
 use Rattle.fabric_model.specs.declared.traffic.Traffic.{Traffic}
-use Rattle.fabric_model.specs.declared.traffic.Traffic.TheVariants.{All}
-use Rattle.fabric_routes.specs.Routes.{Channel, DependsOn, SendsToOwner, hop, hop_by}
+use Rattle.fabric_model.specs.declared.traffic.Traffic.TheVariants.{All, Rows}
+use Rattle.fabric_routes.specs.Routes.{Channel, DependsOn, Sends, SendsToOwner, hop, hop_by}
 use Rattle.fabric_mixtures.specs.Mixtures.{IsEmptied, IsMixture, MayBeFollowed, MayTake, MayTakeBoth}
 use Rattle.fabric_mixtures.specs.Moves.{DependsWhile}
 
@@ -67,9 +67,13 @@ module _ (fabric : FabricOf) (old new : TablesOf) where
   moments_mixed one other is too zero = is
   moments_mixed one other is too (suc moment) = too
 
-  pub changing : (lid : ℕ) (channel next : Channel) → MayTakeBoth fabric old new lid channel next → SendsToOwner fabric All lid (port.Switch channel.switch) → DependsWhile fabric old new All channel next
+  -- a switch sends to a LID by all tables by which it takes a channel for it
+  abbrev pub SendsBy : Traffic → (lid : ℕ) (channel next : Channel) → Type 0
+  SendsBy traffic lid channel next = (tables : TablesOf) → hop fabric tables channel.switch lid ≡ On channel.port next.switch → Sends fabric tables traffic lid (port.Switch channel.switch)
+
+  pub changing : (traffic : Traffic) (lid : ℕ) (channel next : Channel) → MayTakeBoth fabric old new lid channel next → SendsBy traffic lid channel next → DependsWhile fabric old new traffic channel next
   unfolding moments
-  changing lid channel next may sends =
+  changing traffic lid channel next may sends =
       let (one, is, on) = taken_by lid channel.switch channel.port next.switch may.first in
       let (other, too, next_on) = taken_by lid next.switch next.port may.after may.second in (
         lid,
@@ -77,7 +81,7 @@ module _ (fabric : FabricOf) (old new : TablesOf) where
         record {
           tables_at = moments one other;
           mixed = moments_mixed one other is too;
-          sends = inl sends;
+          sends = sends one on;
           start = channel.switch;
           begins = refl;
           hops = 0;
@@ -99,25 +103,40 @@ module _ (fabric : FabricOf) (old new : TablesOf) where
       by true = is switch lid
       by false = too switch lid
 
-  pub at_once : (lid : ℕ) (channel next : Channel) → MayTakeBoth fabric old new lid channel next → SendsToOwner fabric All lid (port.Switch channel.switch) → channel.switch ≢ next.switch → (mixed : TablesOf) × IsMixture old new mixed × DependsOn fabric mixed All channel next
-  at_once lid channel next may sends apart =
+  pub at_once : (traffic : Traffic) (lid : ℕ) (channel next : Channel) → MayTakeBoth fabric old new lid channel next → SendsBy traffic lid channel next → channel.switch ≢ next.switch → (mixed : TablesOf) × IsMixture old new mixed × DependsOn fabric mixed traffic channel next
+  at_once traffic lid channel next may sends apart =
       let (one, is, on) = taken_by lid channel.switch channel.port next.switch may.first in
       let (other, too, next_on) = taken_by lid next.switch next.port may.after may.second in
       let here : eqb channel.switch channel.switch ≡ true = grind (arith, nat_tests) in
-      let there : eqb next.switch channel.switch ≡ false = grind (arith, nat_tests) in (
+      let there : eqb next.switch channel.switch ≡ false = grind (arith, nat_tests) in
+      let first = hop_same fabric (parted one other channel.switch) one channel.switch lid (ap (λ (b : Bool). cond b (one channel.switch lid) (other channel.switch lid)) here) ∙ on in (
         parted one other channel.switch,
         parted_mixed one other channel.switch is too,
         (
           lid,
           port.Switch channel.switch,
           record {
-            comes = record { sends = inl sends; start = channel.switch; begins = refl; hops = 0; comes = refl };
-            first = hop_same fabric (parted one other channel.switch) one channel.switch lid (ap (λ (b : Bool). cond b (one channel.switch lid) (other channel.switch lid)) here) ∙ on;
+            comes = record { sends = sends (parted one other channel.switch) first; start = channel.switch; begins = refl; hops = 0; comes = refl };
+            first = first;
             after = may.after;
             second = hop_same fabric (parted one other channel.switch) other next.switch lid (ap (λ (b : Bool). cond b (one next.switch lid) (other next.switch lid)) there) ∙ next_on;
           },
         ),
       )
+
+-- where a switch takes a channel, it has a row
+has_row : (fabric : FabricOf) (tables : TablesOf) (switch lid port next : ℕ) (told : Option ℕ) → tables switch lid ≡ told → hop_by fabric switch lid told ≡ On port next → HasRow tables lid
+has_row fabric tables switch lid port next None is on = absurd (cc)
+has_row fabric tables switch lid port next (Some out) is on = (switch, out, is)
+
+-- it sends to a LID of another end port, and by `Rows` to one that nobody owns
+module _ (fabric : FabricOf) (old new : TablesOf) (lid : ℕ) (channel next : Channel) where
+  pub to_owner : SendsToOwner fabric All lid (port.Switch channel.switch) → SendsBy fabric old new All lid channel next
+  to_owner sends tables on = inl sends
+
+  pub to_nobody : owner_of fabric lid ≡ None → channel.switch < switch_count fabric → SendsBy fabric old new Rows lid channel next
+  unfolding hop
+  to_nobody unowned low tables on = inr (record { by_rows = refl; is_source = low; unowned = unowned; has_row = has_row fabric tables channel.switch lid channel.port next.switch (tables channel.switch lid) refl on })
 
 -- where rows are taken out, nothing is added
 no_row : (fabric : FabricOf) (switch lid port next : ℕ) → hop_by fabric switch lid None ≡ On port next → ⊥

@@ -41,12 +41,12 @@ pub record IsTurnBy (fabric : FabricOf) (first second : TablesOf) (lid at one ot
   pub is_one : one ≡ at * fabric.most + (port - 1)
   pub is_other : other ≡ next * fabric.most + (next_port - 1)
 
--- the same, to one by the old or by the new tables
+-- the numbers of such channels, the second one by the old or by the new tables
 abbrev pub IsTurnFrom : FabricOf → (first old new : TablesOf) → (lid at one other : ℕ) → Type 0
 IsTurnFrom fabric first old new lid at one other =
     IsTurnBy fabric first old lid at one other ⊎ IsTurnBy fabric first new lid at one other
 
--- the same, each by the old or by the new tables
+-- the numbers of such channels, each by the old or by the new tables
 pub record IsTurnAt (fabric : FabricOf) (old new : TablesOf) (lid at one other : ℕ) : Type 0 where
   pub port : ℕ
   pub next : ℕ
@@ -57,7 +57,7 @@ pub record IsTurnAt (fabric : FabricOf) (old new : TablesOf) (lid at one other :
   pub is_one : one ≡ at * fabric.most + (port - 1)
   pub is_other : other ≡ next * fabric.most + (next_port - 1)
 
--- out of any of the first so many switches, and to any of the first so many LIDs
+-- of channels of which the first is out of one of the first so many switches; and for one of the first so many LIDs
 abbrev pub IsTurnBelow : FabricOf → (old new : TablesOf) → (lid switches one other : ℕ) → Type 0
 IsTurnBelow fabric old new lid switches one other =
     (at : ℕ) × (at < switches) × IsTurnAt fabric old new lid at one other

@@ -37,7 +37,7 @@ pub record IsTurn (fabric : FabricOf) (old new : TablesOf) (channel next : Chann
       (hop fabric new channel.switch turn.lid ≡ On channel.port next.switch) turn.by
   pub next_by : IsBy (GoesBy fabric old turn.lid next) (GoesBy fabric new turn.lid next) turn.next_by
 
--- .. and to no lesser LID
+-- such a turn, of the least LID for which the second channel may follow the first
 pub record IsLeastTurn (fabric : FabricOf) (old new : TablesOf) (channel next : Channel) (turn : Turn) : Type 0 where
   pub turns : IsTurn fabric old new channel next turn
   pub least : (lid : ℕ) → MayTakeBoth fabric old new lid channel next → turn.lid ≤ lid

@@ -1,12 +1,12 @@
 //! What is so of each mixture of two tables. No function here has code.
 
-ghost use Rattle.std.specs.Prelude.{◌≢◌, ◌≤◌, ℕ, List, []};
+ghost use Rattle.std.specs.Prelude.{◌≡◌, ◌≢◌, ◌<◌, ◌≤◌, ℕ, List, [], None};
 ghost use Rattle.common_graph.specs.Cycles.{HasNoCycle};
 ghost use Rattle.fabric_tables.specs.Cells.{TablesOf};
 ghost use Rattle.fabric_model.specs.declared.node.EndPort.TheVariants as port;
-ghost use Rattle.fabric_model.specs.Fabric.{FabricOf};
+ghost use Rattle.fabric_model.specs.Fabric.{FabricOf, owner_of, switch_count};
 ghost use Rattle.fabric_model.specs.declared.traffic.Traffic.{Traffic};
-ghost use Rattle.fabric_model.specs.declared.traffic.Traffic.TheVariants.{All};
+ghost use Rattle.fabric_model.specs.declared.traffic.Traffic.TheVariants.{All, Rows};
 ghost use Rattle.fabric_routes.specs.Routes.{Channel, DependsOn, SendsToOwner};
 ghost use Rattle.fabric_verdict.specs.Packets.{QueuesOf};
 ghost use Rattle.fabric_mixtures.specs.Mixtures.{IsEmptied, IsMixture, MayBeFollowed, MayTakeBoth};
@@ -15,7 +15,8 @@ ghost use Rattle.fabric_mixtures.specs.Packets.{AllStandWhile, ComesFree};
 ghost use Rattle.fabric_mixtures.specs.Verdict.{HasRanks};
 
 /// A mixture of two tables makes no dependency that they do not make together. So if no channels that may follow one
-/// another lead round, no mixture has a credit loop, for any traffic, also for LIDs that nobody owns. Each of the two tables is a mixture.
+/// another lead round, no mixture has a credit loop, for any traffic, also for LIDs that nobody owns. Each of the two
+/// tables is a mixture.
 pub fn no_mixture_has_a_loop()
     ensures depends { (fabric : FabricOf) (old new mixed : TablesOf) (traffic : Traffic) (channel next : Channel)
         → IsMixture old new mixed → DependsOn fabric mixed traffic channel next
@@ -35,9 +36,9 @@ pub fn no_change_has_a_loop()
         → HasNoCycle (MayBeFollowed fabric old new) → HasNoCycle (DependsWhile fabric old new traffic) }
 {}
 
-/// What may be followed is, for the traffic `all`, if the switch of the channel sends to the LID, as it does if another
-/// end port owns the LID: some packet takes the one channel and then the other while rows change, and if the channels are out of
-/// two switches, one mixture makes the dependency.
+/// What may be followed is: some packet takes the one channel and then the other while rows change, and if the channels
+/// are out of two switches, one mixture makes the dependency. It is so for the traffic `all` if the switch of the channel
+/// sends to the LID, as it does if another end port owns the LID; and for `rows` if nobody owns it.
 pub fn what_may_be_followed_is()
     ensures changing { (fabric : FabricOf) (old new : TablesOf) (lid : ℕ) (channel next : Channel)
         → MayTakeBoth fabric old new lid channel next → SendsToOwner fabric All lid (port.Switch channel.switch)
@@ -46,6 +47,13 @@ pub fn what_may_be_followed_is()
         → MayTakeBoth fabric old new lid channel next → SendsToOwner fabric All lid (port.Switch channel.switch)
         → channel.switch ≢ next.switch
         → (mixed : TablesOf) × IsMixture old new mixed × DependsOn fabric mixed All channel next }
+    ensures changing_unowned { (fabric : FabricOf) (old new : TablesOf) (lid : ℕ) (channel next : Channel)
+        → MayTakeBoth fabric old new lid channel next → owner_of fabric lid ≡ None
+        → channel.switch < switch_count fabric → DependsWhile fabric old new Rows channel next }
+    ensures at_once_unowned { (fabric : FabricOf) (old new : TablesOf) (lid : ℕ) (channel next : Channel)
+        → MayTakeBoth fabric old new lid channel next → owner_of fabric lid ≡ None
+        → channel.switch < switch_count fabric → channel.switch ≢ next.switch
+        → (mixed : TablesOf) × IsMixture old new mixed × DependsOn fabric mixed Rows channel next }
 {}
 
 /// Rows may be taken out first. Tables and what is left of them make together no more than they make alone, so no

@@ -2,3 +2,4 @@ mod WordLemmas
 mod CountLemmas
 pub mod KnownLemmas
 mod StepLemmas
+pub mod ReservedLemmas

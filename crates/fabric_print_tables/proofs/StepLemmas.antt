@@ -17,7 +17,7 @@ use Rattle.fabric_read_tables.specs.declared.line.TableLine.TheVariants.{Head, R
 use Rattle.fabric_read_tables.specs.declared.reading.Part.{Part}
 use Rattle.fabric_read_tables.specs.declared.reading.Part.TheVariants.{Start, Between, Dumped, Plain}
 use Rattle.fabric_read_lines.specs.Pieces.{AreLinesOf}
-use Rattle.fabric_read_tables.specs.Tables.{Told, AddsTo, at_part, may_begin, may_end, none_told, row_added, told_after, told_with}
+use Rattle.fabric_read_tables.specs.Tables.{Told, AddsTo, at_part, is_void, may_begin, may_end, none_told, row_added, told_after, told_with}
 use Rattle.fabric_read_tables.proofs.SaidLemmas.{told_by}
 use Rattle.fabric_print_tables.specs.Texts.{IsFilled, IsFilledUnowned, IsTextOf}
 use Rattle.fabric_print_tables.specs.Printed.{HasPrinted, IsBefore, IsCountBefore, end_words, head_words, none_rows, part_at, row_words}
@@ -75,8 +75,11 @@ in_tables : (tables : TablesOf) (switch lid s l : ℕ) (found : Option ℕ) → 
 in_tables tables switch lid s l found same here is = rw (same, here) is
 
 -- what each line leads to
-row_step : (fabric : FabricOf) (told : Told) (switch lid port : ℕ) → told.part ≡ Dumped switch → eqb port 255 ≡ false → told.tables switch lid ≡ None → told_with fabric told (Row lid port) ≡ Ok (row_added fabric told switch lid port)
+row_step : (fabric : FabricOf) (told : Told) (switch lid port : ℕ) → told.part ≡ Dumped switch → is_void lid port ≡ false → told.tables switch lid ≡ None → told_with fabric told (Row lid port) ≡ Ok (row_added fabric told switch lid port)
 row_step fabric told switch lid port part not none = rw (part, not, none) refl
+
+row_says : (lid port : ℕ) → lid ≢ 0 → port < 255 → is_void lid port ≡ false
+row_says lid port some small = grind (arith, nat_tests)
 
 head_step : (fabric : FabricOf) (told : Told) (switch guid : ℕ) → may_begin told.part ≡ Ok tt → switch_with fabric guid ≡ Some switch → told_with fabric told (Head guid) ≡ Ok (at_part told (Dumped switch))
 head_step fabric told switch guid begins known = rw (begins, known) refl
@@ -144,10 +147,10 @@ module _ (fabric : FabricOf) (tables : TablesOf) where
   unowned_more switch lid port count (Some owner) owns here had = count_skip (IsFilledUnowned fabric tables) switch lid count (λ filled. (let same : Some owner ≡ None = sym owns ∙ filled.1 in absurd (cc))) had
 
   -- a row
-  row_of : (bytes : List ℕ) (switch lid port : ℕ) → lid < 0xC000 → port < 255 → Some port ≡ tables switch lid → HasPrinted fabric tables bytes (Dumped switch) switch lid → HasPrinted fabric tables (bytes ++ line_text (row_words lid port)) (Dumped switch) switch (lid + 1)
-  row_of bytes switch lid port low small here had =
+  row_of : (bytes : List ℕ) (switch lid port : ℕ) → lid ≢ 0 → lid < 0xC000 → port < 255 → Some port ≡ tables switch lid → HasPrinted fabric tables bytes (Dumped switch) switch lid → HasPrinted fabric tables (bytes ++ line_text (row_words lid port)) (Dumped switch) switch (lid + 1)
+  row_of bytes switch lid port some low small here had =
       let line = join_with_byte 32 (row_words lid port) in
-      let not : eqb port 255 ≡ false = grind (arith, nat_tests) in
+      let not = row_says lid port some small in
       let none = had.no_more switch lid (not_itself switch lid) in
       let after = row_added fabric had.told switch lid port in
       let step = told_by fabric had.told line (Row lid port) (row_said lid port low (omega arith)) ∙ row_step fabric had.told switch lid port had.part_is not none in
@@ -169,9 +172,12 @@ module _ (fabric : FabricOf) (tables : TablesOf) where
         unowned = unowned_more switch lid port had.told.unowned (owner_of fabric lid) refl (sym here) had.unowned;
       }
 
-  pub row_printed : (old new : List ℕ) (switch lid port : ℕ) → lid < 0xC000 → port < 255 → Some port ≡ tables switch lid → new ≡ old ++ line_text (row_words lid port) → HasPrinted fabric tables old (Dumped switch) switch lid → HasPrinted fabric tables new (Dumped switch) switch (lid + 1)
-  row_printed old new switch lid port low small here is had =
-      subst (λ (b : List ℕ). HasPrinted fabric tables b (Dumped switch) switch (lid + 1)) (sym is) (row_of old switch lid port low small here had)
+  pub row_printed : (old new : List ℕ) (switch lid port : ℕ) → ((s : ℕ) → tables s 0 ≡ None) → lid < 0xC000 → port < 255 → Some port ≡ tables switch lid → new ≡ old ++ line_text (row_words lid port) → HasPrinted fabric tables old (Dumped switch) switch lid → HasPrinted fabric tables new (Dumped switch) switch (lid + 1)
+  row_printed old new switch lid port reserved low small here is had =
+      subst (λ (b : List ℕ). HasPrinted fabric tables b (Dumped switch) switch (lid + 1)) (sym is) (row_of old switch lid port some low small here had)
+    where
+      some : lid ≢ 0
+      some zero = not_filled switch 0 (sym (reserved switch)) port (sym (subst (λ (l : ℕ). Some port ≡ tables switch l) zero here))
 
   -- a head
   pub head_printed : (old new : List ℕ) (switch guid : ℕ) → guid < 2 ^ 64 → switch_with fabric guid ≡ Some switch → new ≡ old ++ line_text (head_words guid) → HasPrinted fabric tables old (part_at switch) switch 0 → HasPrinted fabric tables new (Dumped switch) switch 0

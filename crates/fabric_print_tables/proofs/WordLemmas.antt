@@ -19,7 +19,7 @@ use Rattle.fabric_words.specs.Digits.{guid, hex}
 use Rattle.fabric_words.specs.Rows.{row}
 use Rattle.fabric_words.proofs.RowLemmas.{four, row_is, three}
 use Rattle.fabric_read_tables.specs.declared.line.TableLine.TheVariants.{Head, Row, End, PlainHead, PlainEnd}
-use Rattle.fabric_read_tables.specs.TableLines.{head_guid, said_by, said_in}
+use Rattle.fabric_read_tables.specs.TableLines.{table_guid, said_by, said_in}
 use Rattle.fabric_read_tables.proofs.SaidLemmas.{said_by_words}
 use Rattle.fabric_print_tables.specs.Printed.{end_words, head_words, lid_word, port_word, row_words}
 use Rattle.fabric_print_tables.specs.Texts.{guid_word}
@@ -100,13 +100,13 @@ guid_said : (g : ℕ) → g < 2 ^ 64 → guid (hex_text 16 g) ≡ Some g
 unfolding guid hex
 guid_said g low = rw (length-hex_text 16 g, hex_digits 16 g, hex_says 16 g (omega arith)) refl
 
-head_guid_is : (g : ℕ) → head_guid (join_with_byte 32 (head_words g)) ≡ guid (hex_text 16 g)
+table_guid_is : (g : ℕ) → table_guid (join_with_byte 32 (head_words g)) ≡ guid (hex_text 16 g)
 unfolding hex_text cut_first
-head_guid_is g = refl
+table_guid_is g = refl
 
 pub head_said : (g : ℕ) → g < 2 ^ 64 → said_in (join_with_byte 32 (head_words g)) ≡ Ok (Head g)
 unfolding hex_text said_in after
-head_said g low = rw (head_guid_is g ∙ guid_said g low) refl
+head_said g low = rw (table_guid_is g ∙ guid_said g low) refl
 
 -- what the last line of a table says
 digit_range : (c : ℕ) → is_ascii_digit c ≡ true → (48 ≤ c) × (c ≤ 57)

@@ -2,7 +2,7 @@
 
 ghost use Rattle.std.specs.Prelude.{◌≡◌, ◌<◌, ◌≤◌, ◌+◌, ◌*◌, ◌++◌, ℕ, None, OnOk, IfOk};
 ghost use Rattle.common_lines.specs.Lines.{line_text, lines_text};
-ghost use Rattle.fabric_model.specs.Fabric.{FabricOf, IsFabric, switch_count};
+ghost use Rattle.fabric_model.specs.Fabric.{FabricOf, IsFabric, owner_of, switch_count};
 ghost use Rattle.fabric_tables.specs.Cells.{tables_of};
 ghost use Rattle.fabric_read_tables.specs.declared.reading.Part.TheVariants.{Dumped};
 ghost use Rattle.fabric_print_tables.specs.Texts.{IsTextOf, guid_word};
@@ -16,11 +16,12 @@ use fabric_tables::cells::Cells;
 use std::alloc::Global;
 
 /// The text of tables of a fabric: for each switch a head, a row for each LID for which it has a port, whoever owns
-/// the LID, and a last line. Of a fabric without switches it is a plain text without rows. The error is out of memory
-/// alone.
+/// the LID, and a last line. LID 0 is reserved: nobody owns it, and no switch may have a port for it. Of a fabric without
+/// switches it is a plain text without rows. The error is out of memory alone.
 pub fn print(alloc: Global, fabric: &Fabric, cells: &Cells) -> Result<Vec<u8>, OutOfMemory>
     requires same { switch_count fabric.now ≡ cells.now.switches }
     requires lids { 64 * cells.now.blocks ≤ 0xC000 }
+    requires reserved { owner_of fabric.now 0 ≡ None → (switch : ℕ) → tables_of cells.now switch 0 ≡ None }
     ensures { IfOk result (λ text. IsTextOf fabric.now text.items (tables_of cells.now)) }
 {
     if fabric.switches() == 0 {
@@ -55,6 +56,7 @@ fn push_table(
     requires switch { switch < switch_count fabric.now }
     requires same { switch_count fabric.now ≡ cells.now.switches }
     requires lids { 64 * cells.now.blocks ≤ 0xC000 }
+    requires reserved { (switch : ℕ) → tables_of cells.now switch 0 ≡ None }
     ensures { OnOk result (HasPrinted fabric.now (tables_of cells.now) text.old.items (part_at switch) switch 0
         → HasPrinted fabric.now (tables_of cells.now) text.new.items (part_at (switch + 1)) (switch + 1) 0) }
 {
@@ -68,6 +70,7 @@ fn push_table(
 fn push_rows(text: &mut Vec<u8>, cells: &Cells, switch: usize) -> Result<(), OutOfMemory>
     requires switch { switch < cells.now.switches }
     requires lids { 64 * cells.now.blocks ≤ 0xC000 }
+    requires reserved { (switch : ℕ) → tables_of cells.now switch 0 ≡ None }
     ensures past { (other lid : ℕ) → 64 * cells.now.blocks ≤ lid → tables_of cells.now other lid ≡ None }
     ensures printed { OnOk result ((fabric : FabricOf)
         → HasPrinted fabric (tables_of cells.now) text.old.items (Dumped switch) switch 0
@@ -89,6 +92,7 @@ fn push_cell(
     requires switch { switch < cells.now.switches }
     requires lid { lid < 64 * cells.now.blocks }
     requires lids { 64 * cells.now.blocks ≤ 0xC000 }
+    requires reserved { (switch : ℕ) → tables_of cells.now switch 0 ≡ None }
     ensures { OnOk result ((fabric : FabricOf)
         → HasPrinted fabric (tables_of cells.now) text.old.items (Dumped switch) switch lid
         → HasPrinted fabric (tables_of cells.now) text.new.items (Dumped switch) switch (lid + 1)) }

@@ -1,5 +1,5 @@
 -- What a row adds.
-use Rattle.std.proofs.Common.{◌≡◌, ◌≢◌, ◌∙◌, sym, ap, refl, ℕ, ◌+◌, List, arith, Bool, true, false, cond, eqb, Option, Some, None, Result, Ok, Err, ◌&&◌, ◌==◌}
+use Rattle.std.proofs.Common.{◌≡◌, ◌∙◌, sym, ap, refl, ℕ, ◌+◌, ◌≤◌, List, arith, Bool, true, false, cond, Option, Some, None, Result, Ok, Err, ◌&&◌, ◌==◌}
 use mathlib.Core.Path.{fun_ext}
 use Rattle.std.specs.Prelude.{is_none, is_some, not}
 use Rattle.std.specs.Int.{from_bool}
@@ -17,7 +17,7 @@ use Rattle.fabric_read_tables.specs.declared.line.TableLine.TheVariants.{Row}
 use Rattle.fabric_read_tables.specs.declared.reading.Part.{Part}
 use Rattle.fabric_read_tables.specs.declared.reading.Reading.{Reading}
 use Rattle.fabric_read_tables.specs.TableLines.{said_in}
-use Rattle.fabric_read_tables.specs.Tables.{IsFaultyAfter, Step, Told, port_told, row_added, row_told, switch_dumped, told_after, unowned_with}
+use Rattle.fabric_read_tables.specs.Tables.{IsFaultyAfter, Step, Told, is_void, port_told, row_added, row_told, switch_dumped, told_after, unowned_with}
 use Rattle.fabric_read_tables.specs.Readings.{told_of}
 use Rattle.fabric_read_tables.proofs.SaidLemmas.{told_by}
 
@@ -36,15 +36,25 @@ pub unowned_more : (fabric : FabricOf) (lid count more : ℕ) (owner : Option En
 unowned_more fabric lid count more owner none is_owner says is_more =
     ap (λ (n : ℕ). count + n) is_more ∙ counted none count ∙ ap (λ (b : Bool). cond b (count + 1) count) (is_unowned owner none says ∙ ap is_none is_owner)
 
+-- a row that is put is for another LID than 0
+for_other : (lid port switch s : ℕ) → is_void lid port ≡ false → (s == switch && 0 == lid) ≡ false
+for_other lid port switch s says = grind (arith, nat_tests)
+
+pub still_reserved : (room new : TablesOf) (switch lid port : ℕ) → is_void lid port ≡ false → IsPut room new switch lid port → ((s : ℕ) → room s 0 ≡ None) → (s : ℕ) → new s 0 ≡ None
+still_reserved room new switch lid port says put reserved s = put s 0 ∙ ap (λ (b : Bool). cond b (Some port) (room s 0)) (for_other lid port switch s says) ∙ reserved s
+
+pub one_more : (unowned rows unowned' rows' more : ℕ) (none : Bool) → more ≡ from_bool none → unowned' ≡ unowned → rows' ≡ rows → unowned ≤ rows → unowned' + more ≤ rows' + 1
+one_more unowned rows unowned' rows' more true is same also few = omega arith
+one_more unowned rows unowned' rows' more false is same also few = omega arith
+
 module _ (fabric : FabricOf) (told : Told) (switch lid port : ℕ) where
   put_by : (had : Option ℕ) → ((other : ℕ) → had ≡ Some other → other ≡ port) → port_told fabric told switch lid port had ≡ Ok (row_added fabric told switch lid port)
   put_by None alone = refl
   put_by (Some other) alone = rw (eq-eqb other port (alone other refl)) refl
 
   -- the port was put into tables that are those told so far
-  pub row_put : (at : Part) (rows unowned : ℕ) (room new : TablesOf) → port ≢ 255 → at ≡ told.part → rows ≡ told.rows + 1 → unowned ≡ unowned_with fabric lid told.unowned → ((s l : ℕ) → room s l ≡ told.tables s l) → IsPut room new switch lid port → HasNoOther room switch lid port → row_told fabric told lid port switch ≡ Ok (record { part = at; tables = new; rows = rows; unowned = unowned })
-  row_put at rows unowned room new some is_at is_rows is_unowned same put alone =
-      let not : eqb port 255 ≡ false = grind (arith, nat_tests) in
+  pub row_put : (at : Part) (rows unowned : ℕ) (room new : TablesOf) → is_void lid port ≡ false → at ≡ told.part → rows ≡ told.rows + 1 → unowned ≡ unowned_with fabric lid told.unowned → ((s l : ℕ) → room s l ≡ told.tables s l) → IsPut room new switch lid port → HasNoOther room switch lid port → row_told fabric told lid port switch ≡ Ok (record { part = at; tables = new; rows = rows; unowned = unowned })
+  row_put at rows unowned room new not is_at is_rows is_unowned same put alone =
       let tables : new ≡ with_port told.tables switch lid port = fun_ext (λ s. fun_ext (λ l. put s l ∙ ap (λ (had : Option ℕ). cond (s == switch && l == lid) (Some port) had) (same s l))) in
       let step : row_told fabric told lid port switch ≡ port_told fabric told switch lid port (told.tables switch lid) = ap (λ (b : Bool). cond b (Ok told) (port_told fabric told switch lid port (told.tables switch lid))) not in
       step ∙ put_by (told.tables switch lid) (λ other is. alone other (same switch lid ∙ is))

@@ -11,7 +11,7 @@ use Rattle.fabric_words.specs.Says.{or_cause}
 use Rattle.fabric_read_tables.specs.declared.cause.TablesCause.{TablesCause}
 use Rattle.fabric_read_tables.specs.declared.line.TableLine.{TableLine}
 use Rattle.fabric_read_tables.specs.declared.line.TableLine.TheVariants.{ListedRow, PlainRow, Row}
-use Rattle.fabric_read_tables.specs.TableLines.{Said, head_guid, is_count, is_lister, listed, listed_head, plain_port, plain_row, plain_switch, printed_by, said_by, said_by_two, said_in, unicast}
+use Rattle.fabric_read_tables.specs.TableLines.{Said, table_guid, is_count, is_lister, listed, listed_head, plain_port, plain_row, plain_table, printed_by, said_by, said_by_two, said_in, unicast}
 use Rattle.fabric_read_tables.specs.Readings.{IsUnicast}
 
 abbrev Fine : Said → Type 0
@@ -40,7 +40,7 @@ plain lid port = or_none (decimal lid) _ _ (λ to. or_none (decimal port) _ (λ 
 -- words
 by_two : (first second : List ℕ) → Fine (said_by_two first second)
 by_two first second =
-    either (bytes_eq first (codes "switch")) (plain_switch second) _ (or_none (hex_after second) _ _ (λ found. tt))
+    either (bytes_eq first (codes "switch")) (plain_table second) _ (or_none (hex_after second) _ _ (λ found. tt))
     (either (bytes_eq first (codes "Port") && bytes_eq second (codes "Info")) _ _ tt
     (either (bytes_eq first (codes "tables") && bytes_eq second (codes "1")) _ (plain_row first second) tt (plain first second)))
 
@@ -64,7 +64,7 @@ unfolding said_in
 by_line line =
     either (ltb 4096 (length line)) _ _ tt
     (either (begins (codes "0x") line) (printed_by line (row line)) _ (printed line (row line))
-    (either (begins (codes "Unicast lids ") line) _ _ (or_none (head_guid line) _ _ (λ found. tt))
+    (either (begins (codes "Unicast lids ") line) _ _ (or_none (table_guid line) _ _ (λ found. tt))
     (either (begins (codes "*** WARNING ***") line) _ (said_by (words_of line)) tt (by_words (words_of line)))))
 
 pub unicast_said : (line : List ℕ) (said : TableLine) → said_in line ≡ Ok said → IsUnicast said

@@ -35,13 +35,14 @@ IsUnicast (PlainRow lid port) = lid ≤ 0xbfff
 IsUnicast line = ⊤
 
 -- there is a cell for each switch and each LID that has an owner, and maybe for more unicast LIDs; rows belong to a switch
--- that there is; rows for LIDs that nobody owns are among all
+-- that there is; rows for LIDs that nobody owns are among all, and none is for LID 0
 pub record IsFit (fabric : FabricOf) (reading : Reading) : Type 0 where
   pub switches : reading.cells.switches ≡ switch_count fabric
   pub lids : length fabric.owners ≤ 64 * reading.cells.blocks
   pub most : 64 * reading.cells.blocks ≤ 0xC000
   pub within : IfSome (switch_in reading.part) (λ switch. switch < switch_count fabric)
   pub unowned : reading.unowned ≤ reading.rows
+  pub reserved : (switch : ℕ) → tables_of reading.cells switch 0 ≡ None
 
 -- a line adds no row
 pub record KeepsRows (old new : Reading) : Type 0 where

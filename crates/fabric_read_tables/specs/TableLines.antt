@@ -46,11 +46,11 @@ abbrev pub printed_row : List ℕ → Said
 printed_row line = printed_by line (row line)
 
 -- the head of a switch's table: its GUID stands in 16 digits after the first ` guid 0x`
-abbrev pub head_guid : List ℕ → Option ℕ
-head_guid line = option_and_then (λ parts. guid (take 16 parts.1)) (cut_first (codes " guid 0x") line)
+abbrev pub table_guid : List ℕ → Option ℕ
+table_guid line = option_and_then (λ parts. guid (take 16 parts.1)) (cut_first (codes " guid 0x") line)
 
 abbrev pub head : List ℕ → Said
-head line = or_cause (head_guid line) BadGuid (λ found. Ok (Head found))
+head line = or_cause (table_guid line) BadGuid (λ found. Ok (Head found))
 
 -- a row in plain words: a LID and a port, both in decimal
 abbrev pub plain_port : ℕ → ℕ → Said
@@ -61,8 +61,8 @@ plain_row lid port =
     or_cause (decimal lid) UnknownLine (λ to. or_cause (decimal port) UnknownLine (λ by. plain_port to by))
 
 -- the switch to which the next plain rows belong: its GUID has 1 to 16 digits after `0x`
-abbrev pub plain_switch : List ℕ → Said
-plain_switch word = or_cause (hex_after word) BadGuid (λ found. Ok (PlainSwitch found))
+abbrev pub plain_table : List ℕ → Said
+plain_table word = or_cause (hex_after word) BadGuid (λ found. Ok (PlainSwitch found))
 
 -- the switch to which the next rows of a list belong: the same, after the name of the function that printed it
 abbrev pub is_lister : List ℕ → Bool
@@ -82,7 +82,7 @@ said_by_one word = if bytes_eq word (codes "end") then Ok PlainEnd else Err Unkn
 
 abbrev pub said_by_two : (first second : List ℕ) → Said
 said_by_two first second =
-    if bytes_eq first (codes "switch") then plain_switch second
+    if bytes_eq first (codes "switch") then plain_table second
     else (if bytes_eq first (codes "Port") && bytes_eq second (codes "Info") then Ok Nothing
     else (if bytes_eq first (codes "tables") && bytes_eq second (codes "1") then Ok PlainHead
     else plain_row first second))

@@ -93,10 +93,13 @@ port_told fabric told switch lid port None = Ok (row_added fabric told switch li
 port_told fabric told switch lid port (Some other) =
     if other == port then Ok (row_added fabric told switch lid port) else Err PortDiffers
 
--- 255 is no port: such a row says nothing
+-- whether a row says nothing: 255 is no port, and LID 0 is reserved
+abbrev pub is_void : (lid port : ℕ) → Bool
+is_void lid port = port == 255 || lid == 0
+
 abbrev pub row_told : FabricOf → Told → (lid port switch : ℕ) → Step
 row_told fabric told lid port switch =
-    if port == 255 then Ok told else port_told fabric told switch lid port (told.tables switch lid)
+    if is_void lid port then Ok told else port_told fabric told switch lid port (told.tables switch lid)
 
 -- a table, or a plain text, begins if none is open but that of a list, which ends there; one of a dump, or a plain text,
 -- ends if it is open
@@ -150,8 +153,8 @@ abbrev pub IsEnded : Told → Type 0
 IsEnded told = may_end told.part ≡ true
 
 -- The bytes are the text of these tables of the fabric: each line is good after those before it, the last
--- part ended, and the tables are what the lines say, for each LID, whoever owns it. So many rows named a port, and so
--- many of them for LIDs that nobody owns.
+-- part ended, and the tables are what the lines say, for each LID but 0, whoever owns it. So many rows named a port for
+-- one of these, and so many of them for LIDs that nobody owns.
 pub record IsTablesText (fabric : FabricOf) (bytes : List ℕ) (tables : TablesOf) (rows unowned : ℕ)
     : Type 0 where
   pub last : Told

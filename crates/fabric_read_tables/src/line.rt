@@ -4,7 +4,7 @@ ghost use Rattle.std.specs.Prelude.{◌≡◌, ◌≤◌, ◌++◌, codes, false
 ghost use Rattle.fabric_words.specs.Cuts.{begins};
 ghost use Rattle.fabric_words.specs.Rows.{row};
 ghost use Rattle.fabric_words.specs.Says.{IsSaid};
-ghost use Rattle.fabric_read_tables.specs.TableLines.{unicast, head, head_guid, plain_row, plain_switch};
+ghost use Rattle.fabric_read_tables.specs.TableLines.{unicast, head, table_guid, plain_row, plain_table};
 ghost use Rattle.fabric_read_tables.specs.TableLines.{is_lister, listed, listed_head, listed_port, listed_row, printed_row};
 ghost use Rattle.fabric_read_tables.specs.TableLines.{is_count, said_by, said_by_one, said_by_two, said_by_three, said_by_four};
 ghost use Rattle.fabric_read_tables.specs.TableLines.{said_by_seven, said_in};
@@ -162,15 +162,15 @@ fn row_for(lid: u16, line: TableLine) -> Result<TableLine, TablesCause>
 fn head(line: &[u8]) -> Result<TableLine, TablesCause>
     ensures { result ≡ head line.now }
 {
-    match head_guid(line) {
+    match table_guid(line) {
         Some(guid) => Ok(TableLine::Head(guid)),
         None => Err(TablesCause::BadGuid),
     }
 }
 
 // The GUID in the head of a table.
-fn head_guid(line: &[u8]) -> Option<u64>
-    ensures { result ≡ head_guid line.now }
+fn table_guid(line: &[u8]) -> Option<u64>
+    ensures { result ≡ table_guid line.now }
 {
     let (_front, rest) = cut_first(line, " guid 0x")?;
     guid(&rest[..rest.len().min(16)])
@@ -206,7 +206,7 @@ fn said_by_two(first: &[u8], second: &[u8]) -> Result<TableLine, TablesCause>
     ensures { result ≡ said_by_two first.now second.now }
 {
     if is(first, "switch") {
-        return plain_switch(second);
+        return plain_table(second);
     }
     if is(first, "Port") && is(second, "Info") {
         return Ok(TableLine::Nothing);
@@ -291,8 +291,8 @@ fn is_count(word: &[u8]) -> bool
 }
 
 // The switch to which the next plain rows belong.
-fn plain_switch(word: &[u8]) -> Result<TableLine, TablesCause>
-    ensures { result ≡ plain_switch word.now }
+fn plain_table(word: &[u8]) -> Result<TableLine, TablesCause>
+    ensures { result ≡ plain_table word.now }
 {
     match hex_after(word) {
         Some(guid) => Ok(TableLine::PlainSwitch(guid)),

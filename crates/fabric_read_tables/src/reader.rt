@@ -15,10 +15,10 @@ use std::alloc::Global;
 /// The tables of a fabric.
 #[derive(Drop)]
 pub struct Tables {
-    /// The port of each switch for each LID, whether it has an owner or not. Cells are there for all LIDs that have one,
-    /// and for all that a row names.
+    /// The port of each switch for each LID, whether it has an owner or not, but for LID 0, which is reserved. Cells are
+    /// there for all LIDs that have an owner, and for all that a row names.
     pub cells: Cells,
-    /// How many rows named a port.
+    /// How many rows named a port, but for LID 0.
     pub rows: u64,
     /// How many of these rows are for LIDs that nobody owns.
     pub unowned: u64,

@@ -7,7 +7,7 @@ ghost use Rattle.fabric_tables.specs.Cells.{tables_of};
 ghost use Rattle.fabric_read_tables.specs.declared.cause.TablesCause.TheVariants.{UnknownSwitch};
 ghost use Rattle.fabric_read_tables.specs.declared.reading.Part.TheVariants.{Between, Dumped, Listed, Plain, PlainOf};
 ghost use Rattle.fabric_read_tables.specs.Tables.{is_dump, is_list, is_plain, may_begin, may_end, none_told, told_with, Told};
-ghost use Rattle.fabric_read_tables.specs.Tables.{at_part, begins_told, if_open, row_told, rows_of};
+ghost use Rattle.fabric_read_tables.specs.Tables.{at_part, begins_told, if_open, is_void, row_told, rows_of};
 ghost use Rattle.fabric_read_tables.specs.Tables.{switch_dumped, switch_listed, switch_plain, unowned_with, Step};
 ghost use Rattle.fabric_read_tables.specs.Readings.{switch_in, told_of, IsFit, IsUnicast, KeepsRows};
 
@@ -135,9 +135,9 @@ impl Part {
 pub struct Reading {
     /// The part in which the next line stands.
     part: Part,
-    /// The ports of the LIDs, whoever owns them.
+    /// The ports of the LIDs, whoever owns them, but for LID 0.
     pub cells: Cells,
-    /// How many rows named a port.
+    /// How many rows named a port, but for LID 0.
     pub rows: u64,
     /// How many of these are for LIDs that nobody owns.
     pub unowned: u64,
@@ -153,6 +153,14 @@ fn known(fabric: &Fabric, guid: u64) -> Result<usize, TablesCause>
         Some(switch) => Ok(switch as usize),
         None => Err(TablesCause::UnknownSwitch),
     }
+}
+
+// Whether a row says nothing: 255 is no port, and LID 0 is reserved.
+#[inline]
+fn is_void(lid: u16, port: u8) -> bool
+    ensures { result ≡ is_void lid port }
+{
+    port == 255 || lid == 0
 }
 
 // What was done, with a cause as the reason to stop.
@@ -276,7 +284,7 @@ impl Reading {
             Ok(switch) => switch,
             Err(cause) => return Err(Stop::Fault(cause)),
         };
-        if port == 255 {
+        if is_void(lid, port) {
             return Ok(());
         }
         let lid = usize::from(lid);

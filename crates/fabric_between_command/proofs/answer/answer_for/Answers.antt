@@ -1,6 +1,6 @@
 use Rattle.std.proofs.Common.{◌∙◌, ap, refl, ℕ, List}
 use Rattle.fabric_tables.specs.Cells.{tables_of}
-use Rattle.fabric_between_command.specs.declared.lines.Turn.{Turn}
+use Rattle.fabric_between_command.specs.declared.lines.TurnTold.{TurnTold}
 use Rattle.fabric_judge_commands.specs.Names.{names_for}
 use Rattle.fabric_between_command.specs.Judged.{switches_of}
 use Rattle.fabric_between_command.proofs.answer.answer_for.Goals as goal
@@ -10,7 +10,7 @@ returns c =
     let topology = c.args.topology.now in
     let text = ap (λ (bytes : List ℕ). names_for bytes c.in_ok-switches.switches.keys) c.deref-2.ensures.value in
     let keys = ap (λ (guids : List ℕ). names_for topology.text.items guids) c.in_ok-switches.ensures in
-    let turns = ap (λ (cycle : List Turn). names_for topology.text.items (switches_of cycle)) c.deref.ensures.value in
+    let turns = ap (λ (cycle : List TurnTold). names_for topology.text.items (switches_of cycle)) c.deref.ensures.value in
     let is_loop = c.cycle_of.ensures topology.fabric (tables_of c.args.old.now.cells) (tables_of c.args.new.now.cells) c.requires.judged in
     record {
       read = c.read_of.ensures c.count_links-links.ensures.links;

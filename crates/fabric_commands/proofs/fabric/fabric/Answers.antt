@@ -19,7 +19,7 @@ pub returns-in-Lanes : goal.returns-in-Lanes
 returns-in-Lanes g c = answers_call _ _ _ _ _ _ c.in-Some.call Lanes c.in-Some.ensures.call c.in-Lanes.is (record { asked = c.asked_for-asked.result; names = c.asked_for-asked.ensures.named; replies = c.asked_for-asked.ensures.replies; silent = c.asked_for-asked.ensures.silent; answers = c.lanes.ensures })
 
 pub returns-in-LanesDot : goal.returns-in-LanesDot
-returns-in-LanesDot g c = answers_call _ _ _ _ _ _ c.in-Some.call LanesDot c.in-Some.ensures.call c.in-LanesDot.is (record { asked = c.asked_for-asked-in-LanesDot.result; names = c.asked_for-asked-in-LanesDot.ensures.named; replies = c.asked_for-asked-in-LanesDot.ensures.replies; silent = c.asked_for-asked-in-LanesDot.ensures.silent; answers = c.draw_lanes.ensures })
+returns-in-LanesDot g c = answers_call _ _ _ _ _ _ c.in-Some.call LanesDot c.in-Some.ensures.call c.in-LanesDot.is (record { asked = c.asked_for-asked.result; names = c.asked_for-asked.ensures.named; replies = c.asked_for-asked.ensures.replies; silent = c.asked_for-asked.ensures.silent; answers = c.draw_lanes.ensures })
 
 pub returns-in-Between : goal.returns-in-Between
 returns-in-Between g c = answers_call _ _ _ _ _ _ c.in-Some.call Between c.in-Some.ensures.call c.in-Between.is (record { fourth_kept = refl; answers = c.between.ensures })

@@ -1,5 +1,5 @@
 use Rattle.std.proofs.Common.{◌≡◌, drop}
-use Rattle.fabric_judge_call.specs.Said.{nothing_said, say}
+use Rattle.fabric_judge_call.specs.Steps.{nothing_said, say}
 use Rattle.fabric_judge_call.proofs.said.said_by.Given as goal
 
 -- all words say what those that are left say after the others

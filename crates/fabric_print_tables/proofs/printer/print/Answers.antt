@@ -1,4 +1,5 @@
 use Rattle.std.proofs.Common.{List, Ok, Err, Result, arith, sym, subst, ℕ}
+use Rattle.fabric_print_tables.proofs.ReservedLemmas.{reserved}
 use Rattle.std.specs.Prelude.{IfOk}
 use Rattle.fabric_tables.specs.Cells.{tables_of}
 use Rattle.fabric_print_tables.specs.Printed.{HasPrinted, part_at}
@@ -18,3 +19,6 @@ switches-init c = subst (λ (text : List ℕ). HasPrinted c.args.fabric.now (tab
 
 pub returns : goal.returns
 returns c = all_printed c.args.fabric.now (tables_of c.args.cells.now) c.switches.text.items c.switches.switch (part_at c.switches.switch) (part_after c.switches.switch (omega arith)) (λ s l past. no_switch c.args.cells.now s l (omega arith)) c.switches.invariant
+
+pub push_table-requires-clause-reserved : goal.push_table-requires-clause-reserved
+push_table-requires-clause-reserved c = c.requires.reserved (reserved c.args.fabric.now c.switches-switch-end.ensures.fabric)
