@@ -2,6 +2,9 @@ use Rattle.fabric_tables.specs.Cells.{tables_of}
 use Rattle.fabric_route_command.proofs.NoSwitchLemmas.{all_arrive, no_cycle}
 use Rattle.fabric_route_command.proofs.route.given_made.Goals as goal
 
+pub print-requires-clause-reserved : goal.print-requires-clause-reserved
+print-requires-clause-reserved c none switch = c.requires.tables.owned switch 0 none
+
 pub given_none-requires-clause-some : goal.given_none-requires-clause-some
 given_none-requires-clause-some c none =
     let fabric = c.args.fabric.now in

@@ -1,4 +1,4 @@
-use Rattle.std.proofs.Common.{inl, refl, rules, subst, sym}
+use Rattle.std.proofs.Common.{◌∙◌, inl, refl, rules, subst, sym}
 use Rattle.fabric_tables.specs.Cells.{TablesOf, tables_of}
 use Rattle.fabric_print_tables.specs.Texts.{IsTextOf}
 use Rattle.fabric_repair_commands.specs.Given.{WereMadeOf}
@@ -17,3 +17,8 @@ returns-in_ok-print-in-Ok-clause-given c =
       told = subst (λ (tables : TablesOf). IsTextOf fabric c.in_ok-print-in-Ok.field-0.items tables) (sym were.set) c.in_ok-print-in-Ok.ensures;
       status_is = refl;
     })
+
+pub print-requires-clause-reserved : goal.print-requires-clause-reserved
+print-requires-clause-reserved c none switch =
+    let were : WereMadeOf c.args.self.now.traffic c.args.topology.now.fabric c.args.tables.now.cells c.in-Ok.made.cells = search rules in
+    were.shape.unowned switch 0 none ∙ c.requires.reserved switch
