@@ -108,11 +108,10 @@ fn show(
     }
 }
 
-/// Makes the switch at `s` handle `hand`, and adds all lines of it except those about frames. `note` is updated to
-/// what the switch now shows; `room` is scratch space for a note.
+/// Makes the switch at `s` handle `hand`, and, if `note` is what it showed before, adds all lines of it except
+/// those about frames, and updates `note` to what it now shows. `room` is scratch space for a note.
 ///
-/// The caller must pass a working switch with fewer than 2^28 works, a hand that is not empty, and in `note` what
-/// the switch showed before.
+/// The caller must pass a working switch with fewer than 2^28 works, and a hand that is not empty.
 ///
 /// # Errors
 /// `OutOfMemory` if an allocation fails. The contents of `out`, `note` and `lines` are then unspecified.

@@ -101,10 +101,9 @@ pub fn end_of(net: &Net) -> Result<Ending, ReplayRefusal>
     }
 }
 
-/// Returns why the journal of a text is rejected after `why`, by which an event was rejected: for the first error
-/// after that event, if there is one, otherwise for the event. The rest of the text is read, but not kept.
-///
-/// The caller must pass a reader that has read up to that event.
+/// Returns why the journal of a text is rejected after `why`, by which an event was rejected, if `reader` has read
+/// up to that event: for the first error after the event, if there is one, otherwise for the event. The rest of the
+/// text is read, but not kept.
 pub fn refused(reader: &mut Reader, why: ReplayRefusal) -> ReplayRefusal
     ensures { (script : ScriptOf) (bytes : List ℕ) (before : List Event) (event : Event)
         → HasRead script bytes (before ++ event ∷ []) reader.old → IsLawful script before

@@ -160,7 +160,7 @@ pub extern "C" fn autonet_show(alloc: Global, switch: &mut Handle, shown: &mut S
     }
 }
 
-/// Tells what the switch takes the other end of a port, 1 to 12, to be.
+/// Writes what the switch takes the other end of `port`, 1 to 12, to be into `shown`.
 #[unsafe(no_mangle)]
 pub extern "C" fn autonet_port(
     alloc: Global,
@@ -182,7 +182,7 @@ pub extern "C" fn autonet_port(
     }
 }
 
-/// Tells the row at a place of the table that was loaded last, from 0.
+/// Writes the row at the index `place`, from 0, of the table that was loaded last into `row`.
 #[unsafe(no_mangle)]
 pub extern "C" fn autonet_row(
     alloc: Global,
@@ -204,7 +204,7 @@ pub extern "C" fn autonet_row(
     }
 }
 
-/// Tells the member at a place, from 0, of what the switch has finished with in its present epoch.
+/// Writes the member at the index `place`, from 0, of what the switch has now finished with into `member`.
 #[unsafe(no_mangle)]
 pub extern "C" fn autonet_member(
     alloc: Global,
@@ -226,7 +226,7 @@ pub extern "C" fn autonet_member(
     }
 }
 
-/// Ends the life of the switch and gives back its memory. The handle then holds no switch.
+/// Ends the life of the switch and frees its memory. The handle then holds no switch.
 #[unsafe(no_mangle)]
 pub extern "C" fn autonet_end(alloc: Global, switch: &mut Handle) -> u32
     requires handle { IsHandle switch.old.held switch.old.block.instance }
