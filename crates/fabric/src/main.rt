@@ -1,16 +1,16 @@
-//! The program: it reads its words and makes the one call of `ib_calls`, over the files that they name and the
-//! standard streams.
+//! fabric, commands: the program `fabric`. It reads its arguments and makes the one call of `fabric_commands`, with the
+//! files that they name and the standard streams.
 //!
-//! It has no contract of its own: what it prints, and its status, are those of the call.
+//! It has no contract of its own: its output and its exit status are those of the call.
 #![tactic(auto)]
 
-use an_base::memory::OutOfMemory;
-use an_base::text::Word;
-use calling::words::words_of_call;
-use ib_answering::status::{Status, finish};
-use ib_calls::fabric::fabric;
-use ib_judging::input::Input;
-use ib_judging::words::file_of;
+use common_call::words::words_of_call;
+use common_values::memory::OutOfMemory;
+use common_values::text::Word;
+use fabric_call::status::{Status, finish};
+use fabric_commands::fabric::fabric;
+use fabric_judge_call::input::Input;
+use fabric_judge_call::words::file_of;
 use outside::standard::{StdSink, StdSource};
 use std::process::ExitCode;
 

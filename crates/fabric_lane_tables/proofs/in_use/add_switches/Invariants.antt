@@ -1,0 +1,11 @@
+use Rattle.fabric_model.specs.declared.node.EndPort.TheVariants.{Switch}
+use Rattle.fabric_lane_tables.specs.InUse.{AddsLevels, HasSameRoom, IsKnownBelow}
+use Rattle.fabric_lane_tables.specs.PathLevels.{told_levels}
+use Rattle.fabric_lane_tables.proofs.in_use.add_switches.Given as goal
+
+-- the levels of those so far
+abbrev pub invariant-switches : goal.invariant-switches
+invariant-switches l = record {
+  room : HasSameRoom l.fn.rows l.rows;
+  added : AddsLevels (told_levels l.fn.rows) (told_levels l.rows) (IsKnownBelow l.fabric (told_levels l.told) Switch l.switch);
+}
