@@ -51,7 +51,8 @@ class Fabric:
         for switch, line in parts_of(folder / "opensm-sl2vl.dump", "Switch"):
             ports, _, row = line.partition(":")
             if row:
-                self.lanes[(switch, *map(int, ports.split()))] = rows.setdefault(row, [int(lane) for lane in row.split()])
+                lanes = rows.setdefault(row, [int(lane) for lane in row.split()])
+                self.lanes[(switch, *map(int, ports.split()))] = lanes
         self.count = 1 + max((lane for row in rows.values() for lane in row if lane < DISCARD), default=-1)
         columns = list(zip(*rows.values())) or [()] * 16
         self.like = [columns.index(column) for column in columns]
@@ -63,7 +64,8 @@ class Fabric:
         for (switch, entry, port), row in sorted(self.lanes.items()):
             rows[switch, entry].append((port, id(row)))
         gates = {}
-        return {(switch, entry): (switch, gates.setdefault((switch, *row), entry)) for (switch, entry), row in rows.items()}
+        return {(switch, entry): (switch, gates.setdefault((switch, *row), entry))
+                for (switch, entry), row in rows.items()}
 
     def add(self, node, far):
         """A node, with the far side of its port."""
@@ -159,7 +161,8 @@ class Answer:
 
     def targets(self):
         """The LIDs to which the traffic goes."""
-        yield from (lid for lid, (is_switch, _) in self.fabric.owner.items() if not is_switch or self.traffic != "hosts")
+        yield from (lid for lid, (is_switch, _) in self.fabric.owner.items()
+                    if not is_switch or self.traffic != "hosts")
         if self.traffic == "rows":
             yield from {lid for table in self.fabric.table.values() for lid in table} - self.fabric.owner.keys()
 
@@ -185,8 +188,9 @@ class Answer:
         return list(counts.values())
 
     def follow(self, spot, route, known):
-        """Follows a route to where it ends, or to a spot that is known: keeps of each spot on its way what is done there,
-        and how a route ends from there: the cause, how many switches it takes, and the switch where it is lost."""
+        """Follows a route to where it ends, or to a spot that is known: keeps of each spot on its way what is done
+        there, and how a route ends from there: the cause, how many switches it takes, and the switch where it is
+        lost."""
         lid, _, level = route
         way, before = {}, None
         while spot not in known and spot not in way:
@@ -285,7 +289,8 @@ def lines_of(folder, word, traffic):
     levels = {"levels": lambda: with_replies(fabric, levels_in(folder / "path-sl.dump")),
               "any": lambda: lambda source, lid: range(16)}.get(word, lambda: lambda source, lid: [int(word)])()
     told = "file" if word == "levels" else word
-    return [f"judged traffic {traffic} lanes {fabric.count} levels {told}", *Answer(fabric, levels, traffic).lines(word)]
+    answer = Answer(fabric, levels, traffic)
+    return [f"judged traffic {traffic} lanes {fabric.count} levels {told}", *answer.lines(word)]
 
 
 def names_in(path):
