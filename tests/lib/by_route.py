@@ -141,8 +141,8 @@ def with_replies(fabric, levels):
 class Answer:
     """The counts, the dependencies with their least routes, and the lost routes of all that is sent."""
 
-    def __init__(self, fabric, levels, traffic):
-        self.fabric, self.levels = fabric, levels
+    def __init__(self, fabric, levels, traffic, given=None):
+        self.fabric, self.levels, self.given = fabric, levels, given or levels
         self.routes = self.arrived = self.hops = self.silent = self.unowned = 0
         self.traffic, self.mute = traffic, None
         self.depends, self.lost, self.first = {}, collections.Counter(), {}
@@ -169,7 +169,7 @@ class Answer:
     def add(self, begin, source, lid):
         """The routes of a pair, each level one."""
         levels = tuple(self.levels(source, lid))
-        if not levels:
+        if not self.given(source, lid):
             self.silent += 1
             self.mute = self.mute or (lid, source)
         if levels not in self.counted:
@@ -286,10 +286,11 @@ class Answer:
 def lines_of(folder, word, traffic):
     """The lines of the answer for a folder: `levels` takes those of path-sl.dump, else one level or `any`."""
     fabric = fabric_in(folder)
-    levels = {"levels": lambda: with_replies(fabric, levels_in(folder / "path-sl.dump")),
-              "any": lambda: lambda source, lid: range(16)}.get(word, lambda: lambda source, lid: [int(word)])()
+    given = {"levels": lambda: levels_in(folder / "path-sl.dump"),
+             "any": lambda: lambda source, lid: range(16)}.get(word, lambda: lambda source, lid: [int(word)])()
+    levels = with_replies(fabric, given) if word == "levels" else given
     told = "file" if word == "levels" else word
-    answer = Answer(fabric, levels, traffic)
+    answer = Answer(fabric, levels, traffic, given)
     return [f"judged traffic {traffic} lanes {fabric.count} levels {told}", *answer.lines(word)]
 
 
