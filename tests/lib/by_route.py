@@ -51,7 +51,8 @@ class Fabric:
         for switch, line in parts_of(folder / "opensm-sl2vl.dump", "Switch"):
             ports, _, row = line.partition(":")
             if row:
-                self.lanes[(switch, *map(int, ports.split()))] = rows.setdefault(row, [int(lane) for lane in row.split()])
+                lanes = rows.setdefault(row, [int(lane) for lane in row.split()])
+                self.lanes[(switch, *map(int, ports.split()))] = lanes
         self.count = 1 + max((lane for row in rows.values() for lane in row if lane < DISCARD), default=-1)
         columns = list(zip(*rows.values())) or [()] * 16
         self.like = [columns.index(column) for column in columns]
@@ -63,7 +64,8 @@ class Fabric:
         for (switch, entry, port), row in sorted(self.lanes.items()):
             rows[switch, entry].append((port, id(row)))
         gates = {}
-        return {(switch, entry): (switch, gates.setdefault((switch, *row), entry)) for (switch, entry), row in rows.items()}
+        return {(switch, entry): (switch, gates.setdefault((switch, *row), entry))
+                for (switch, entry), row in rows.items()}
 
     def add(self, node, far):
         """A node, with the far side of its port."""
@@ -139,8 +141,8 @@ def with_replies(fabric, levels):
 class Answer:
     """The counts, the dependencies with their least routes, and the lost routes of all that is sent."""
 
-    def __init__(self, fabric, levels, traffic):
-        self.fabric, self.levels = fabric, levels
+    def __init__(self, fabric, levels, traffic, given=None):
+        self.fabric, self.levels, self.given = fabric, levels, given or levels
         self.routes = self.arrived = self.hops = self.silent = self.unowned = 0
         self.traffic, self.mute = traffic, None
         self.depends, self.lost, self.first = {}, collections.Counter(), {}
@@ -159,14 +161,15 @@ class Answer:
 
     def targets(self):
         """The LIDs to which the traffic goes."""
-        yield from (lid for lid, (is_switch, _) in self.fabric.owner.items() if not is_switch or self.traffic != "hosts")
+        yield from (lid for lid, (is_switch, _) in self.fabric.owner.items()
+                    if not is_switch or self.traffic != "hosts")
         if self.traffic == "rows":
             yield from {lid for table in self.fabric.table.values() for lid in table} - self.fabric.owner.keys()
 
     def add(self, begin, source, lid):
         """The routes of a pair, each level one."""
         levels = tuple(self.levels(source, lid))
-        if not levels:
+        if not self.given(source, lid):
             self.silent += 1
             self.mute = self.mute or (lid, source)
         if levels not in self.counted:
@@ -185,8 +188,9 @@ class Answer:
         return list(counts.values())
 
     def follow(self, spot, route, known):
-        """Follows a route to where it ends, or to a spot that is known: keeps of each spot on its way what is done there,
-        and how a route ends from there: the cause, how many switches it takes, and the switch where it is lost."""
+        """Follows a route to where it ends, or to a spot that is known: keeps of each spot on its way what is done
+        there, and how a route ends from there: the cause, how many switches it takes, and the switch where it is
+        lost."""
         lid, _, level = route
         way, before = {}, None
         while spot not in known and spot not in way:
@@ -282,10 +286,12 @@ class Answer:
 def lines_of(folder, word, traffic):
     """The lines of the answer for a folder: `levels` takes those of path-sl.dump, else one level or `any`."""
     fabric = fabric_in(folder)
-    levels = {"levels": lambda: with_replies(fabric, levels_in(folder / "path-sl.dump")),
-              "any": lambda: lambda source, lid: range(16)}.get(word, lambda: lambda source, lid: [int(word)])()
+    given = {"levels": lambda: levels_in(folder / "path-sl.dump"),
+             "any": lambda: lambda source, lid: range(16)}.get(word, lambda: lambda source, lid: [int(word)])()
+    levels = with_replies(fabric, given) if word == "levels" else given
     told = "file" if word == "levels" else word
-    return [f"judged traffic {traffic} lanes {fabric.count} levels {told}", *Answer(fabric, levels, traffic).lines(word)]
+    answer = Answer(fabric, levels, traffic, given)
+    return [f"judged traffic {traffic} lanes {fabric.count} levels {told}", *answer.lines(word)]
 
 
 def names_in(path):

@@ -176,6 +176,12 @@ def built(name, *words):
     return path
 
 
+def is_newest(path):
+    """Whether a program is there, and no source is newer."""
+    sources = [TOP / "crates.txt", *TOP.glob("crates/*/src/**/*"), *TOP.glob("crates/*/specs/**/*")]
+    return path.exists() and all(it.stat().st_mtime <= path.stat().st_mtime for it in sources)
+
+
 @functools.cache
 def autonet():
     """The program `autonet` of all commands, or the one that AUTONET names."""

@@ -8,8 +8,10 @@ for good, and tells no fault of them. A channel of which the ranks say nothing h
 import re
 import sys
 
+
 def end(kind, guid, port):
     return ("switch", guid) if kind in ("S", "SW") else ("host", guid, port)
+
 
 def facts(text):
     """The links, each as two times an end and its port; and of each LID with its LMC the owner."""
@@ -18,7 +20,8 @@ def facts(text):
         word = line.split()
         if two := re.findall(r"{ (SW|CA|Rt?|RT)\S* .*?NodeGUID:(\w+) PortGUID:\w+.*? LID:(\w{4}) PN:(\w+) }", line):
             (k, g, l, p), (m, h, n, q) = [(k, int(g, 16), int(n, 16), int(p, 16)) for k, g, n, p in two]
-            yield from [("link", end(k, g, p), p, end(m, h, q), q), ("own", l, 0, end(k, g, p)), ("own", n, 0, end(m, h, q))]
+            yield "link", end(k, g, p), p, end(m, h, q), q
+            yield from [("own", l, 0, end(k, g, p)), ("own", n, 0, end(m, h, q))]
         elif m := re.match(r'(Switch|Ca|Rt)\t\d+ "(.)-(\w+)".*?(?: lid (\d+) lmc (\d+))?$', line):
             here = m[2], int(m[3], 16)
             if m[4]:
@@ -35,6 +38,7 @@ def facts(text):
             yield "link", end("H", int(word[1], 16), 0), 1, end("S", int(word[4], 16), 0), int(word[5])
         elif word[:1] == ["link"]:
             yield "link", end("S", int(word[1], 16), 0), int(word[2]), end("S", int(word[3], 16), 0), int(word[4])
+
 
 def main(topology, tables, ranks, traffic="hosts"):
     far, start, owner, table, rank, steps = {}, {}, {}, {}, {}, 0
@@ -73,5 +77,6 @@ def main(topology, tables, ranks, traffic="hosts"):
                 seen.add(then)
                 todo.append(then)
     print("ranks fall along", steps, "steps")
+
 
 print(__doc__) if sys.argv[1:] in (["-h"], ["--help"]) else main(*sys.argv[1:])

@@ -30,8 +30,8 @@ def put(folder, name, text):
 
 
 class Fabric:
-    """A topology in plain words, as OpenSM lists it, or as ibnetdiscover prints it: owners of LIDs, ends at switches, and
-    links."""
+    """A topology in plain words, as OpenSM lists it, or as ibnetdiscover prints it: owners of LIDs, ends at switches,
+    and links."""
 
     def __init__(self, text):
         self.switches, self.at, self.owner, self.links = set(), {}, {}, {}
