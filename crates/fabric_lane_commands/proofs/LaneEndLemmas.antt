@@ -16,6 +16,6 @@ module _ (fabric : FabricOf) (tables : TablesOf) (lanes : LanesOf) (traffic : Tr
   loop_is [] is = absurd is.least
   loop_is (one ∷ rest) is = is
 
-  pub cycle_ends : (count : ℕ) (found : List LaneLoopChannel) → LaneCycleIs fabric tables lanes traffic levels found → IsLaneEndOf fabric tables lanes traffic levels count Cycle
-  cycle_ends count [] is = absurd is.least
-  cycle_ends count (one ∷ rest) is = (_, _, is.least.from.closed)
+  pub cycle_ends : (given : LevelsOf) (count : ℕ) (found : List LaneLoopChannel) → LaneCycleIs fabric tables lanes traffic levels found → IsLaneEndOf fabric tables lanes traffic levels given count Cycle
+  cycle_ends given count [] is = absurd is.least
+  cycle_ends given count (one ∷ rest) is = (_, _, is.least.from.closed)

@@ -1,5 +1,5 @@
 -- The first pair without a service level.
-use Rattle.std.proofs.Common.{◌≡◌, ◌≢◌, ◌∙◌, sym, ap, refl, subst, ℕ, ◌+◌, ◌*◌, ◌<◌, ◌≤◌, ◌^◌, ◌↔◌, Option, Some, None, arith, length, inl, inr, ◌⊎◌}
+use Rattle.std.proofs.Common.{◌≡◌, ◌≢◌, ◌∙◌, sym, ap, refl, subst, ℕ, ◌+◌, ◌*◌, ◌<◌, ◌≤◌, ◌^◌, Option, Some, None, arith, length, inl, inr, ◌⊎◌}
 use Rattle.std.specs.Int.{bit_at, trailing_zeros, w16}
 use Rattle.std.proofs.lemmas.Bool.{cases_eq, cases_lt}
 use Rattle.std.proofs.lemmas.Nat.Bits.{bit_at-trailing_zeros, bit_at-zero}
@@ -9,7 +9,7 @@ use Rattle.fabric_model.specs.declared.node.EndPort.TheVariants.{Host, Switch}
 use Rattle.fabric_model.specs.Fabric.{FabricOf, guid_of, switch_count}
 use Rattle.fabric_tables.specs.Cells.{TablesOf}
 use Rattle.fabric_counts.specs.Counts.{Route}
-use Rattle.fabric_routes.specs.Audience.{IsAudience, IsHeard, IsHeardFrom}
+use Rattle.fabric_routes.specs.Audience.{IsAudience, IsHeardFrom}
 use Rattle.fabric_routes.specs.Counting.{IsCountOf}
 use Rattle.fabric_routes.specs.declared.audience.Audience.{Audience}
 use Rattle.fabric_routes.specs.declared.audience.Audience.TheVariants.{Nobody, Hosts, Everyone}

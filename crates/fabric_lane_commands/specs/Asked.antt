@@ -5,7 +5,7 @@ use Rattle.outside.specs.Told.{Seen}
 use Rattle.common_lines.specs.Words.{is_number_in, number_value}
 use Rattle.fabric_model.specs.Fabric.{FabricOf}
 use Rattle.fabric_lane_tables.specs.declared.levels.LevelRows.{LevelRows}
-use Rattle.fabric_lane_tables.specs.InUse.{AreLevelsInUse}
+use Rattle.fabric_lane_tables.specs.InUse.{AreLevelsGiven, AreLevelsInUse}
 use Rattle.fabric_lane_tables.specs.PathLevels.{LevelsOf, told_levels}
 use Rattle.fabric_words.specs.declared.lane_cause.LaneCause.{LaneCause}
 use Rattle.fabric_read_lines.specs.declared.reader.TextRefusal.{TextRefusal}
@@ -46,12 +46,16 @@ GaveLevelsFor fabric File old new levels = AreGiven fabric old new levels
 GaveLevelsFor fabric (Same level) old new levels = (new ≡ old) × (levels ≡ one_level level)
 GaveLevelsFor fabric Any old new levels = (new ≡ old) × (levels ≡ any_level)
 
--- .. and by them the levels in use: those of replies too, if they count, and the one of pairs that have none, if one is
--- given
-pub record AreLevelsFor (fabric : FabricOf) (asked : Asked) (old new : Seen) (used : LevelsOf) : Type 0 where
+-- .. and by them those that are given: a pair that was told none has that of silent pairs, if there is one
+pub record AreGivenFor (fabric : FabricOf) (asked : Asked) (old new : Seen) (given : LevelsOf) : Type 0 where
   pub told : LevelsOf
   pub gave : GaveLevelsFor fabric asked.levels old new told
-  pub uses : AreLevelsInUse fabric asked.replies asked.silent told used
+  pub gives : AreLevelsGiven asked.silent told given
+
+-- .. and by these those in use, with those of replies if they count
+pub record AreLevelsFor (fabric : FabricOf) (asked : Asked) (old new : Seen) (given used : LevelsOf) : Type 0 where
+  pub is_given : AreGivenFor fabric asked old new given
+  pub uses : AreLevelsInUse fabric asked.replies given used
 
 -- the levels of a call are of 0 to 15
 pub record HasLowLevels (asked : Asked) : Type 0 where

@@ -1,11 +1,12 @@
 -- What a call of `lanes` reads.
 
-use Rattle.std.specs.Prelude.{◌≡◌, ◌≤◌, ◌*◌, ℕ, List, length}
+use Rattle.std.specs.Prelude.{◌≡◌, ℕ, List}
 use Rattle.outside.specs.Told.{Seen}
 use Rattle.fabric_model.specs.Fabric.{FabricOf}
 use Rattle.fabric_read_tables.specs.declared.reader.Tables.{Tables}
 use Rattle.fabric_read_tables.specs.Reads.{GaveTables, HasCells}
 use Rattle.fabric_lane_tables.specs.declared.lanes.LaneRows.{LaneRows}
+use Rattle.fabric_lane_tables.specs.InUse.{levels_in_use}
 use Rattle.fabric_lane_tables.specs.Levels.{levels_of}
 use Rattle.fabric_lane_tables.specs.PathLevels.{LevelsOf}
 use Rattle.fabric_words.specs.declared.lane_cause.LaneCause.{LaneCause}
@@ -30,12 +31,14 @@ abbrev pub lane_sources : (topology tables lanes levels : Seen) → LaneSources
 lane_sources topology tables lanes levels =
     record { fabric = sources topology tables; lanes = lanes; levels = levels }
 
--- what they tell: the text of the topology, its fabric, the tables and the lanes of it, and the levels in use
+-- what they tell: the text of the topology, its fabric, the tables and the lanes of it, the levels that are given and those
+-- in use
 pub record Told : Type 0 where
   pub text : List ℕ
   pub fabric : FabricOf
   pub found : Tables
   pub lanes : LaneRows
+  pub given : LevelsOf
   pub levels : LevelsOf
 
 abbrev pub told_in : Input → Told
@@ -45,7 +48,8 @@ told_in input =
       fabric = input.topology.fabric;
       found = input.tables;
       lanes = input.lanes;
-      levels = levels_of input.levels;
+      given = levels_of input.levels.given;
+      levels = levels_in_use input.levels;
     }
 
 -- the topology and the tables were read to their ends, and are those of this fabric
@@ -57,7 +61,7 @@ pub record AreTablesRead (old new : Sources) (text : List ℕ) (fabric : FabricO
 pub record AreRead (asked : Asked) (old new : LaneSources) (told : Told) : Type 0 where
   pub tables : AreTablesRead old.fabric new.fabric told.text told.fabric told.found
   pub lanes : GaveLanes told.fabric old.lanes new.lanes told.lanes
-  pub levels : AreLevelsFor told.fabric asked old.levels new.levels told.levels
+  pub levels : AreLevelsFor told.fabric asked old.levels new.levels told.given told.levels
 
 -- there is a cell for each switch and each LID that has an owner, and a row of lanes for each switch
 pub record HasPlaces (input : Input) : Type 0 where

@@ -1,6 +1,6 @@
 -- The answer to a call of `lanes`, and to one of `dot` with lanes.
 
-use Rattle.std.specs.Prelude.{◌≡◌, ℕ, List}
+use Rattle.std.specs.Prelude.{ℕ, List}
 use Rattle.outside.specs.Told.{Seen}
 use Rattle.fabric_model.specs.declared.traffic.Traffic.{Traffic}
 use Rattle.fabric_print_lanes.specs.declared.answer.Asked.{Asked}

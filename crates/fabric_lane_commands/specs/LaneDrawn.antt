@@ -54,5 +54,6 @@ pub record IsLaneDrawn (traffic : Traffic) (asked : Asked) (told : Told) (status
   pub picture : LanePicture
   pub shows : IsLanePictureOf traffic asked told loop picture
   pub ends :
-      IsLaneEndOf told.fabric (tables_of told.found.cells) (lanes_of told.lanes) traffic told.levels picture.lanes status
+      IsLaneEndOf told.fabric (tables_of told.found.cells) (lanes_of told.lanes) traffic told.levels told.given picture.lanes
+      status
   pub says : written ≡ lane_picture_text picture

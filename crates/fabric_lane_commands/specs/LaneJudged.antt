@@ -9,6 +9,7 @@ use Rattle.fabric_model.specs.declared.node.EndPort.TheVariants.{Switch}
 use Rattle.fabric_model.specs.Fabric.{FabricOf, guid_of}
 use Rattle.fabric_topology.specs.Unset.{unset_of}
 use Rattle.fabric_tables.specs.Cells.{TablesOf, tables_of}
+use Rattle.fabric_routes.specs.Counting.{IsCountOf}
 use Rattle.fabric_model.specs.declared.traffic.Traffic.{Traffic}
 use Rattle.fabric_lane_tables.specs.Lanes.{IsLaneCount, LanesOf, lanes_of}
 use Rattle.fabric_lane_tables.specs.PathLevels.{LevelsOf}
@@ -23,7 +24,7 @@ use Rattle.fabric_lane_counts.specs.declared.counts.LaneCounts.{LaneCounts}
 use Rattle.fabric_lane_counts.specs.declared.counts.LaneLoss.{LaneLoss}
 use Rattle.fabric_lane_counts.specs.declared.counts.LaneLosses.{LaneLosses as Counted}
 use Rattle.fabric_lane_counts.specs.declared.counts.LostLaneRoute.{LostLaneRoute}
-use Rattle.fabric_lane_counts.specs.LaneCounts.{AreLaneCounts, lane_sum_of}
+use Rattle.fabric_lane_counts.specs.LaneCounts.{AreLaneCounts, IsSilent, lane_sum_of}
 use Rattle.fabric_print_lanes.specs.declared.answer.LaneLosses.{LaneLosses}
 use Rattle.fabric_print_lanes.specs.declared.answer.LaneLost.{LaneLost}
 use Rattle.fabric_print_lanes.specs.declared.answer.LaneStep.{LaneStep}
@@ -42,23 +43,23 @@ use Rattle.fabric_lane_commands.specs.Inputs.{Told}
 use Rattle.fabric_lane_commands.specs.Silence.{IsMute, NoneIsSilent, SomeIsSilent}
 
 module _ (fabric : FabricOf) (tables : TablesOf) (lanes : LanesOf) (traffic : Traffic) (levels : LevelsOf) where
-  -- What the statuses 0, 6, 7 and 8 mean, on so many lanes: there is no credit loop, as ranks of the channels show, each
-  -- route of the traffic arrives, and none lacks its level; the same, but some lack it; there is none, but a route stops
-  -- or is discarded; there is one.
-  abbrev pub IsLaneEndOf : ℕ → Status → Type 0
-  IsLaneEndOf count Ok =
+  -- What the statuses 0, 6, 7 and 8 mean, by the levels that are given and so many lanes: there is no credit loop, as ranks
+  -- of the channels show, each route of the traffic arrives, and each pair is given a level; the same, but some are given
+  -- none; there is no credit loop, but a route stops or is discarded; there is one.
+  abbrev pub IsLaneEndOf : (given : LevelsOf) → ℕ → Status → Type 0
+  IsLaneEndOf given count Ok =
       (ranks : List ℕ) × LanePasses fabric tables lanes traffic levels count ranks
-      × NoneIsSilent fabric tables traffic levels
-  IsLaneEndOf count Undecided =
+      × NoneIsSilent fabric tables traffic given
+  IsLaneEndOf given count Undecided =
       (ranks : List ℕ) × LanePasses fabric tables lanes traffic levels count ranks
-      × SomeIsSilent fabric tables traffic levels
-  IsLaneEndOf count RoutesLost =
+      × SomeIsSilent fabric tables traffic given
+  IsLaneEndOf given count RoutesLost =
       (ranks : List ℕ) × LaneHasRanks fabric tables lanes traffic levels count ranks
       × SomeIsLaneStopped fabric tables lanes traffic levels
-  IsLaneEndOf count Cycle =
+  IsLaneEndOf given count Cycle =
       (channel : LaneChannel) × (rest : List LaneChannel)
       × IsCycle (LaneDependsOn fabric tables lanes traffic levels) channel rest
-  IsLaneEndOf count status = ⊥
+  IsLaneEndOf given count status = ⊥
 
   -- the least credit loop, or no channels if there is none
   abbrev pub IsLaneLoop : List LaneLoopChannel → Type 0
@@ -141,8 +142,8 @@ pub record IsLaneAnswerFor (traffic : Traffic) (asked : Asked) (told : Told) (an
   pub counted :
       AreLaneCounts told.fabric (tables_of told.found.cells) (lanes_of told.lanes) traffic told.levels counts
   pub routes : answer.routes ≡ lane_routes_of traffic counts
-  pub silent : answer.silent ≡ counts.silent
-  pub mute : IsMute told.fabric (tables_of told.found.cells) traffic told.levels answer.mute
+  pub silent : IsCountOf (IsSilent told.fabric (tables_of told.found.cells) traffic told.given) answer.silent
+  pub mute : IsMute told.fabric (tables_of told.found.cells) traffic told.given answer.mute
   pub channels : IsLaneChannelCount told.fabric answer.lanes answer.channels
   pub dependencies :
       IsLaneDependencyCount told.fabric (tables_of told.found.cells) (lanes_of told.lanes) traffic told.levels
@@ -163,5 +164,6 @@ pub record IsLaneJudged (traffic : Traffic) (asked : Asked) (told : Told) (statu
   pub answer : LaneAnswer
   pub is_answer : IsLaneAnswerFor traffic asked told answer
   pub ends :
-      IsLaneEndOf told.fabric (tables_of told.found.cells) (lanes_of told.lanes) traffic told.levels answer.lanes status
+      IsLaneEndOf told.fabric (tables_of told.found.cells) (lanes_of told.lanes) traffic told.levels told.given answer.lanes
+      status
   pub says : written ≡ lane_answer_text answer

@@ -1,4 +1,4 @@
--- Pairs of an end port and a LID without a service level.
+-- Pairs of an end port and a LID to which it sends that are given no service level.
 
 use Rattle.std.specs.Prelude.{◌≡◌, ◌<◌, ◌≤◌, ◌⊎◌, ℕ, Option, Some, None}
 use Rattle.fabric_model.specs.declared.node.EndPort.{EndPort}
@@ -13,20 +13,20 @@ use Rattle.fabric_lane_tables.specs.PathLevels.{HasLevel, LevelsOf}
 use Rattle.fabric_lane_counts.specs.LaneCounts.{IsSilent}
 use Rattle.fabric_print_lanes.specs.declared.answer.Mute.{Mute}
 
-module _ (fabric : FabricOf) (tables : TablesOf) (traffic : Traffic) (levels : LevelsOf) where
-  -- each end port has a level for each LID to which it sends, or one has none
+module _ (fabric : FabricOf) (tables : TablesOf) (traffic : Traffic) (given : LevelsOf) where
+  -- each end port is given a level for each LID to which it sends, or one is given none
   abbrev pub NoneIsSilent : Type 0
-  NoneIsSilent = (pair : Route) → IsSilent fabric tables traffic levels pair → ⊥
+  NoneIsSilent = (pair : Route) → IsSilent fabric tables traffic given pair → ⊥
 
   abbrev pub SomeIsSilent : Type 0
-  SomeIsSilent = (pair : Route) × IsSilent fabric tables traffic levels pair
+  SomeIsSilent = (pair : Route) × IsSilent fabric tables traffic given pair
 
-  -- Of the pairs that have none this one is to the least LID, and of those to it from the least GUID.
+  -- Of the pairs that are given none this one is to the least LID, and of those to it from the least GUID.
   pub record IsFirstSilent (pair : Route) : Type 0 where
-    pub is : IsSilent fabric tables traffic levels pair
-    pub least : (other : Route) → IsSilent fabric tables traffic levels other → pair.lid ≤ other.lid
+    pub is : IsSilent fabric tables traffic given pair
+    pub least : (other : Route) → IsSilent fabric tables traffic given other → pair.lid ≤ other.lid
     pub first :
-        (other : Route) → IsSilent fabric tables traffic levels other → other.lid ≡ pair.lid
+        (other : Route) → IsSilent fabric tables traffic given other → other.lid ≡ pair.lid
         → guid_of fabric pair.source ≤ guid_of fabric other.source
 
   -- the first one, as an answer tells it, if there is one

@@ -3,8 +3,10 @@
 ghost use Rattle.std.specs.Prelude.{◌≡◌, IfOk};
 ghost use Rattle.fabric_tables.specs.Cells.{tables_of};
 ghost use Rattle.fabric_lane_tables.specs.Lanes.{lanes_of};
+ghost use Rattle.fabric_lane_tables.specs.InUse.{levels_in_use};
 ghost use Rattle.fabric_lane_tables.specs.Levels.{levels_of};
-ghost use Rattle.fabric_lane_counts.specs.LaneCounts.{AreLaneCounts};
+ghost use Rattle.fabric_routes.specs.Counting.{IsCountOf};
+ghost use Rattle.fabric_lane_counts.specs.LaneCounts.{AreLaneCounts, IsSilent};
 ghost use Rattle.fabric_lane_verdict.specs.LaneJudgements.{IsLaneJudgement};
 ghost use Rattle.fabric_lane_commands.specs.Inputs.{HasPlaces, told_in};
 ghost use Rattle.fabric_lane_commands.specs.LaneJudged.{IsLaneAnswerFor, lane_routes_of};
@@ -13,7 +15,7 @@ ghost use Rattle.fabric_lane_commands.specs.Silence.{IsMute};
 use crate::input::Input;
 use crate::judged::cycle_of;
 use crate::losses::{losses_of, lost_of};
-use crate::mute::mute_of;
+use crate::mute::{mute_of, silent_of};
 use crate::names::names_in;
 use crate::steps::steps_of;
 use common_values::memory::OutOfMemory;
@@ -39,7 +41,7 @@ pub fn answer_for(
 ) -> Result<LaneAnswer, OutOfMemory>
     requires places { HasPlaces input.now }
     requires judged { IsLaneJudgement input.now.topology.fabric (tables_of input.now.tables.cells)
-        (lanes_of input.now.lanes) traffic (levels_of input.now.levels) input.now.lanes.count judged.now }
+        (lanes_of input.now.lanes) traffic (levels_in_use input.now.levels) input.now.lanes.count judged.now }
     ensures answer { IfOk result (IsLaneAnswerFor traffic asked (told_in input.now)) }
     ensures lanes { IfOk result (λ answer. answer.lanes ≡ input.now.lanes.count) }
 {
@@ -47,7 +49,8 @@ pub fn answer_for(
     let counts = counts_for(alloc, input, traffic)?;
     let cycle = steps_of(alloc, fabric, cycle_of(judged))?;
     let lost = lost_of(alloc, fabric, counts.lost)?;
-    let mute = mute_for(input, traffic, counts);
+    let silent = silent_of(alloc, input, traffic, counts)?;
+    let mute = mute_for(input, traffic, silent);
     let names = names_in(alloc, &input.topology.text, mute, &cycle, &lost)?;
     let links = count_links(fabric).links;
     Ok(LaneAnswer {
@@ -56,7 +59,7 @@ pub fn answer_for(
         lanes: input.lanes.count() as u64,
         asked,
         routes: routes_of(traffic, counts),
-        silent: counts.silent,
+        silent,
         mute,
         channels: judged.channels,
         dependencies: judged.dependencies,
@@ -72,31 +75,31 @@ pub fn answer_for(
 fn counts_for(alloc: Global, input: &Input, traffic: Traffic) -> Result<LaneCounts, OutOfMemory>
     requires { HasPlaces input.now }
     ensures { IfOk result (AreLaneCounts input.now.topology.fabric (tables_of input.now.tables.cells)
-        (lanes_of input.now.lanes) traffic (levels_of input.now.levels)) }
+        (lanes_of input.now.lanes) traffic (levels_in_use input.now.levels)) }
 {
     let routing = LaneRouting {
         fabric: &input.topology.fabric,
         cells: &input.tables.cells,
         lanes: &input.lanes,
-        levels: &input.levels,
+        levels: input.levels.levels(),
         traffic,
     };
     count_lane_routes(alloc, &routing)
 }
 
-// The first pair without a service level, if the counts have any.
-fn mute_for(input: &Input, traffic: Traffic, counts: LaneCounts) -> Option<Mute>
+// The first pair that is given no service level, if there are so many.
+fn mute_for(input: &Input, traffic: Traffic, silent: u64) -> Option<Mute>
     requires places { HasPlaces input.now }
-    requires counts { AreLaneCounts input.now.topology.fabric (tables_of input.now.tables.cells)
-        (lanes_of input.now.lanes) traffic (levels_of input.now.levels) counts }
+    requires silent { IsCountOf (IsSilent input.now.topology.fabric (tables_of input.now.tables.cells) traffic
+        (levels_of input.now.levels.given)) silent }
     ensures { IsMute input.now.topology.fabric (tables_of input.now.tables.cells) traffic
-        (levels_of input.now.levels) result }
+        (levels_of input.now.levels.given) result }
 {
     mute_of(
-        counts.silent,
+        silent,
         &input.topology.fabric,
         &input.tables.cells,
-        &input.levels,
+        &input.levels.given,
         traffic,
     )
 }

@@ -11,8 +11,8 @@ ghost use Rattle.fabric_read_lanes.specs.LaneReads.{GaveLanes, HasRows};
 use crate::asked::read_asked;
 use fabric_call::input::{Topology, read_topology};
 use fabric_call::status::Status;
+use fabric_lane_tables::in_use::UsedLevels;
 use fabric_lane_tables::lanes::LaneRows;
-use fabric_lane_tables::levels::Levels;
 use fabric_model::fabric::Fabric;
 use fabric_print_lanes::answer::Asked;
 use fabric_read_lanes::lane_reader::read_lanes;
@@ -31,8 +31,8 @@ pub struct Input {
     pub tables: Tables,
     /// The lanes of its switches.
     pub lanes: LaneRows,
-    /// The service levels in use.
-    pub levels: Levels,
+    /// The service levels, as they are given and in use.
+    pub levels: UsedLevels,
 }
 
 // The status of lanes that are refused.

@@ -5,7 +5,7 @@ ghost use Rattle.fabric_tables.specs.Cells.{TablesOf, tables_of};
 ghost use Rattle.fabric_model.specs.Fabric.{FabricOf};
 ghost use Rattle.fabric_model.specs.declared.traffic.Traffic.{Traffic};
 ghost use Rattle.fabric_lane_tables.specs.Lanes.{LanesOf, lanes_of};
-ghost use Rattle.fabric_lane_tables.specs.Levels.{levels_of};
+ghost use Rattle.fabric_lane_tables.specs.InUse.{levels_in_use};
 ghost use Rattle.fabric_lane_tables.specs.PathLevels.{LevelsOf};
 ghost use Rattle.fabric_lane_verdict.specs.LaneJudgements.{IsLaneJudgement};
 ghost use Rattle.fabric_lane_commands.specs.Inputs.{HasPlaces};
@@ -30,24 +30,24 @@ pub fn judged_for(
 ) -> Result<LaneJudgement, OutOfMemory>
     requires { HasPlaces input.now }
     ensures { IfOk result (IsLaneJudgement input.now.topology.fabric (tables_of input.now.tables.cells)
-        (lanes_of input.now.lanes) traffic (levels_of input.now.levels) input.now.lanes.count) }
+        (lanes_of input.now.lanes) traffic (levels_in_use input.now.levels) input.now.lanes.count) }
 {
     let routing = LaneRouting {
         fabric: &input.topology.fabric,
         cells: &input.tables.cells,
         lanes: &input.lanes,
-        levels: &input.levels,
+        levels: input.levels.levels(),
         traffic,
     };
     judge(alloc, &routing)
 }
 
-/// How a call ends for which something was written, by the first pair without a service level, if there is one.
+/// How a call ends for which something was written, by the first pair that is given no service level, if there is one.
 pub fn status_of(judged: &LaneJudgement, mute: Option<Mute>) -> Status
-    ensures { (fabric : FabricOf) (tables : TablesOf) (lanes : LanesOf) (traffic : Traffic) (levels : LevelsOf)
+    ensures { (fabric : FabricOf) (tables : TablesOf) (lanes : LanesOf) (traffic : Traffic) (levels given : LevelsOf)
         (count : ℕ) → IsLaneJudgement fabric tables lanes traffic levels count judged.now
-        → IsMute fabric tables traffic levels mute
-        → IsLaneEndOf fabric tables lanes traffic levels count result }
+        → IsMute fabric tables traffic given mute
+        → IsLaneEndOf fabric tables lanes traffic levels given count result }
 {
     match &judged.verdict {
         LaneVerdict::Cycle { channels: _ } => Status::Cycle,

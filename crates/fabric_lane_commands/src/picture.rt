@@ -49,16 +49,16 @@ impl LaneCommand for DrawLanes {
     }
 }
 
-// The first pair without a service level.
+// The first pair that is given no service level.
 fn mute_in(input: &Input, traffic: Traffic) -> Option<Mute>
     requires { HasPlaces input.now }
     ensures { IsMute input.now.topology.fabric (tables_of input.now.tables.cells) traffic
-        (levels_of input.now.levels) result }
+        (levels_of input.now.levels.given) result }
 {
     first_mute(
         &input.topology.fabric,
         &input.tables.cells,
-        &input.levels,
+        &input.levels.given,
         traffic,
     )
 }

@@ -1,10 +1,10 @@
 -- The routes of an end port to a LID with all its levels, and if they all arrive.
-use Rattle.std.proofs.Common.{◌≡◌, ◌≢◌, ◌∙◌, sym, ap, refl, subst, ℕ, zero, suc, ◌+◌, ◌-◌, ◌*◌, ◌/◌, ◌%◌, ◌^◌, ◌<◌, ◌≤◌, ◌⊎◌, ◌↔◌, Option, Some, None, arith, inl, inr, max, mul_comm}
+use Rattle.std.proofs.Common.{◌≡◌, ◌≢◌, ◌∙◌, sym, ap, refl, subst, ℕ, zero, suc, ◌+◌, ◌-◌, ◌*◌, ◌/◌, ◌%◌, ◌^◌, ◌<◌, ◌⊎◌, Option, Some, None, arith, inl, inr, max, mul_comm}
 use Rattle.std.specs.Int.{bit_at, trailing_zeros, w16}
 use Rattle.std.specs.Int.Count.{ones, ones-ones}
 use Rattle.std.proofs.lemmas.Bool.{cases_eq}
 use Rattle.std.proofs.lemmas.Nat.{ones_cat}
-use Rattle.std.proofs.lemmas.Nat.Bits.{bit_at-trailing_zeros, bit_at-zero, bit_at_above, bit_at_cat_high, bit_at_cat_low}
+use Rattle.std.proofs.lemmas.Nat.Bits.{bit_at-trailing_zeros, bit_at_above, bit_at_cat_high, bit_at_cat_low}
 use Rattle.std.proofs.Math.Nat.{div-add-mod, div-lt_iff_lt-mul, mod-lt, pow-succ'}
 use Rattle.fabric_tables.specs.Cells.{TablesOf}
 use Rattle.fabric_counts.specs.Counts.{hop_for}
@@ -28,7 +28,7 @@ use Rattle.fabric_routes.specs.Routes.{EndsAs, Sends}
 use Rattle.fabric_routes.proofs.CountLemmas.{count_image, count_more, count_none, count_same}
 use Rattle.fabric_routes.proofs.StartLemmas.{sender_is}
 use Rattle.fabric_lane_tables.specs.Lanes.{LanesOf}
-use Rattle.fabric_lane_tables.specs.PathLevels.{HasLevel, LevelsOf}
+use Rattle.fabric_lane_tables.specs.PathLevels.{LevelsOf}
 
 -- as many levels as digits are set
 abbrev IsSet : ℕ → ℕ → ℕ → Type 0

@@ -9,7 +9,7 @@ use Rattle.fabric_counts.specs.declared.counts.Counts.{Counts}
 use Rattle.fabric_lane_counts.specs.Keep.{IsKept}
 use Rattle.fabric_lane_counts.specs.LaneCounts.{AreLaneCounts, IsLaneRouteOf, IsSilent, LaneRoute, LaneRouteEnds}
 use Rattle.fabric_lane_counts.specs.Sums.{IsUnowned, pair_of}
-use Rattle.fabric_lane_counts.proofs.KeptLemmas.{ends_on_one, ends_there}
+use Rattle.fabric_lane_counts.proofs.KeptLemmas.{ends_there}
 use Rattle.fabric_lane_counts.proofs.ListLemmas.{as_many_are_all}
 use Rattle.fabric_lane_counts.proofs.MoreLemmas.{counts_all_arrive, no_counts}
 use Rattle.fabric_lane_routes.specs.declared.hop.LaneOutcome.TheVariants.{Arrives}

@@ -54,6 +54,6 @@ pub struct LaneCounts {
     pub hops: u32,
     /// Those that do not arrive.
     pub lost: LaneLosses,
-    /// How many pairs of an end port and a LID to which it sends have no level, and so no route.
+    /// How many pairs of an end port and a LID to which it sends have no level among those in use, and so no route.
     pub silent: u64,
 }

@@ -18,4 +18,4 @@ mod more;
 mod room;
 mod route;
 mod source;
-mod sums;
+pub mod sums;

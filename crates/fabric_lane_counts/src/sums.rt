@@ -125,7 +125,7 @@ fn find_audiences(alloc: Global, routing: &LaneRouting<'_>) -> Result<Vec<Audien
     Ok(audiences)
 }
 
-/// How many there are of a traffic. The error is out of memory.
+/// How many there are of a traffic, by the levels of the routing. The error is out of memory.
 pub fn sum_levels(alloc: Global, routing: &LaneRouting<'_>) -> Result<Sums, OutOfMemory>
     ensures routes { IfOk result (λ sums. IsCountOf (by_levels IsLaneRouteOf routing.now) sums.routes) }
     ensures unowned { IfOk result (λ sums. IsCountOf (by_levels IsUnowned routing.now) sums.unowned) }

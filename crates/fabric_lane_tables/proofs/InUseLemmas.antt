@@ -1,22 +1,23 @@
--- Levels that are added one after another, and all that are in use.
-use Rattle.std.proofs.Common.{◌≡◌, ◌≢◌, ◌∙◌, sym, ap, refl, subst, ℕ, ◌+◌, ◌*◌, ◌/◌, ◌%◌, ◌<◌, ◌≤◌, ◌^◌, ◌&&◌, ◌++◌, ◌∷◌, [], ◌↔◌, Bool, true, false, cond, eqb, ltb, max, Option, Some, None, List, arith, length, inl, inr, ◌⊎◌}
-use Rattle.std.specs.Prelude.{◌==◌, bit_or, Contains, slice_get}
+-- Levels that are added one after another, those that are given, and those in use.
+use Rattle.std.proofs.Common.{◌≡◌, ◌≢◌, ◌∙◌, sym, ap, refl, subst, ℕ, ◌+◌, ◌*◌, ◌/◌, ◌%◌, ◌<◌, ◌≤◌, ◌^◌, ◌&&◌, ◌++◌, ◌∷◌, [], ◌↔◌, Bool, true, false, cond, eqb, ltb, max, Some, None, List, arith, length, inl, inr, ◌⊎◌}
+use Rattle.std.specs.Prelude.{◌==◌, bit_or, Contains}
 use Rattle.std.specs.Int.{bit_at, trailing_zeros, w16}
 use Rattle.std.proofs.lemmas.Bool.{and_parts, cases_eq, cases_lt, eqb-true, false≢true}
 use Rattle.std.proofs.lemmas.Bool.Decides.{nat_tests}
 use Rattle.std.proofs.lemmas.List.{get_or_past}
 use Rattle.std.proofs.lemmas.List.Elements.{Contains-append_left, Contains-push, Contains-push_cases}
-use Rattle.std.proofs.lemmas.Nat.Bits.{bit_at-lt, bit_at-pow_other, bit_at-pow_same, bit_at-trailing_zeros, bit_at-zero, bit_at_cat_low, bit_at_or}
+use Rattle.std.proofs.Math.Nat.{lt-div-mul-add}
+use Rattle.std.proofs.lemmas.Nat.{pow_pos}
+use Rattle.std.proofs.lemmas.Nat.Bits.{bit_at-lt, bit_at-pow_other, bit_at-pow_same, bit_at-trailing_zeros, bit_at-zero, bit_at_above, bit_at_cat_low, bit_at_or}
 use Rattle.std.proofs.lemmas.Option.{same_Some, none-some, slice_get_within}
 use Rattle.fabric_model.specs.declared.node.EndPort.{EndPort}
 use Rattle.fabric_model.specs.declared.node.EndPort.TheVariants as port
 use Rattle.fabric_model.specs.Fabric.{FabricOf, IsFabric, owner_of, switch_count}
-use Rattle.fabric_model.specs.Nodes.{Owns}
 use Rattle.fabric_lane_tables.specs.PathLevels.{HasLevel, IsLevelAdded, IsPlaced, LevelRowsOf, LevelsOf}
-use Rattle.fabric_lane_tables.specs.PathLevels.{is_end, levels_at, place_of_source, told_levels}
+use Rattle.fabric_lane_tables.specs.PathLevels.{is_end, place_of_source, told_levels}
 use Rattle.fabric_lane_tables.specs.Levels.{filled}
-use Rattle.fabric_lane_tables.specs.InUse.{AddsLevels, AreLevelsInUse, AreLidsOf, HasReplyLevel, HasRoom, IsAskedTo}
-use Rattle.fabric_lane_tables.specs.InUse.{IsKnownBelow, IsKnownOf, IsLevelInUse, IsLevelKnown, IsLevelOfPair}
+use Rattle.fabric_lane_tables.specs.InUse.{AddsLevels, AreLevelsGiven, AreLevelsInUse, AreLidsOf, AreUsedRows, HasReplyLevel, HasRoom, IsAskedTo}
+use Rattle.fabric_lane_tables.specs.InUse.{IsLevelInUse, IsLevelOfPair, IsUsedBelow, IsUsedTo}
 use Rattle.fabric_lane_tables.proofs.SelectLemmas.{end_cases, levels_past, levels_outside}
 
 -- bits of one number or another
@@ -204,146 +205,111 @@ low_kept a b source lid levels level none before =
     ])
     (λ o l k is. (is.0, is.1, (let less = is.2 in omega arith), is.3))
 
+-- no level is left
+pub low_all : (a b : LevelsOf) (source : EndPort) (lid levels level : ℕ) → level ≤ 16 → levels / 2 ^ level ≡ 0 → AddsLevels a b (IsLowLevel source lid levels level) → AddsLevels a b (IsLevelOfPair source lid levels)
+low_all a b source lid levels level fits none before =
+    let some : 0 < 2 ^ level = pow_pos level in
+    let parts = lt-div-mul-add {a = levels} {b = 2 ^ level} some in
+    let whole : levels < 0 * 2 ^ level + 2 ^ level = subst (λ (n : ℕ). levels < n * 2 ^ level + 2 ^ level) none parts in
+    let small : levels < 2 ^ level = omega (arith, whole) in
+    same_added a b (IsLowLevel source lid levels level) (IsLevelOfPair source lid levels) before
+    (λ o l k is. elim (cases_lt k level) [
+      | inl low ↦ (is.0, is.1, low, is.3)
+      | inr past ↦ absurd (let zero : 0 ≡ 1 = sym (bit_at_above levels level k small past) ∙ is.3 in omega arith)
+    ])
+    (λ o l k is. (is.0, is.1, (let less = is.2 in omega arith), is.3))
+
 -- the levels of an end port to the first LIDs
-abbrev pub IsKnownTo : FabricOf → LevelsOf → (source : EndPort) (count : ℕ) → EndPort → ℕ → ℕ → Type 0
-IsKnownTo fabric told source count other lid level = (other ≡ source) × (lid < count) × IsLevelKnown fabric true told other lid level
+level_low : (fabric : FabricOf) (given : LevelsOf) (source : EndPort) (lid level : ℕ) → IsLevelInUse fabric true given source lid level → level < 16
+level_low fabric given source lid level (inl has) = has.0
+level_low fabric given source lid level (inr reply) = let has = reply.1.has in has.0
 
-level_low : (fabric : FabricOf) (told : LevelsOf) (source : EndPort) (lid level : ℕ) → IsLevelKnown fabric true told source lid level → level < 16
-level_low fabric told source lid level (inl has) = has.0
-level_low fabric told source lid level (inr reply) = let has = reply.1.has in has.0
-
-pub known_more : (fabric : FabricOf) (told a b c : LevelsOf) (source : EndPort) (lid levels : ℕ)
-    → ((level : ℕ) → level < 16 → ((bit_at levels level ≡ 1) ↔ IsLevelKnown fabric true told source lid level))
-    → AddsLevels a b (IsKnownTo fabric told source lid) → AddsLevels b c (IsLevelOfPair source lid levels)
-    → AddsLevels a c (IsKnownTo fabric told source (lid + 1))
-known_more fabric told a b c source lid levels bits before added =
-    more_added a b c (IsKnownTo fabric told source lid) (IsLevelOfPair source lid levels) (IsKnownTo fabric told source (lid + 1)) before added
+pub used_more : (fabric : FabricOf) (given a b c : LevelsOf) (source : EndPort) (lid levels : ℕ)
+    → ((level : ℕ) → level < 16 → ((bit_at levels level ≡ 1) ↔ IsLevelInUse fabric true given source lid level))
+    → AddsLevels a b (IsUsedTo fabric given source lid) → AddsLevels b c (IsLevelOfPair source lid levels)
+    → AddsLevels a c (IsUsedTo fabric given source (lid + 1))
+used_more fabric given a b c source lid levels bits before added =
+    more_added a b c (IsUsedTo fabric given source lid) (IsLevelOfPair source lid levels) (IsUsedTo fabric given source (lid + 1)) before added
     (λ o l k is. elim (cases_eq l lid) [
-      | inl same ↦ inr (is.0, same, level_low fabric told o l k is.2, (bits k (level_low fabric told o l k is.2)).1 (subst (λ (p : EndPort). IsLevelKnown fabric true told p lid k) is.0 (subst (λ (n : ℕ). IsLevelKnown fabric true told o n k) same is.2)))
+      | inl same ↦ inr (is.0, same, level_low fabric given o l k is.2, (bits k (level_low fabric given o l k is.2)).1 (subst (λ (p : EndPort). IsLevelInUse fabric true given p lid k) is.0 (subst (λ (n : ℕ). IsLevelInUse fabric true given o n k) same is.2)))
       | inr other ↦ inl (is.0, (let less = is.1 in omega arith), is.2)
     ])
     (λ o l k is. (is.0, (let less = is.1 in omega arith), is.2))
-    (λ o l k is. (is.0, (let same = is.1 in omega arith), subst (λ (p : EndPort). IsLevelKnown fabric true told p l k) (sym is.0) (subst (λ (n : ℕ). IsLevelKnown fabric true told source n k) (sym is.1) ((bits k is.2).0 is.3))))
-
-module _ (fabric : FabricOf) (t : LevelRowsOf) (room : HasRoom fabric t) where
-  lid_low : (lid : ℕ) (owner : EndPort) → owner_of fabric lid ≡ Some owner → lid < 64 * t.blocks
-  lid_low lid owner is = elim (cases_lt lid (length fabric.owners)) [
-    | inl low ↦ (let fits = room.lids in omega arith)
-    | inr past ↦ absurd (none-some owner (sym (get_or_past fabric.owners lid None past) ∙ is))
-  ]
-
-  known_low : (source : EndPort) (lid level : ℕ) → IsLevelKnown fabric true (told_levels t) source lid level → lid < 64 * t.blocks
-  known_low source lid level (inl has) = elim (cases_lt lid (64 * t.blocks)) [
-    | inl low ↦ low
-    | inr past ↦ absurd (no_bit level (ap (λ (n : ℕ). bit_at n level) (sym (levels_past t lid (place_of_source t source) past)) ∙ has.1))
-  ]
-  known_low source lid level (inr reply) = lid_low lid reply.1.owner reply.1.owns
-
-  -- to all LIDs
-  pub known_of : (a b : LevelsOf) (source : EndPort) → AddsLevels a b (IsKnownTo fabric (told_levels t) source (64 * t.blocks)) → AddsLevels a b (IsKnownOf fabric (told_levels t) source)
-  known_of a b source added =
-      same_added a b (IsKnownTo fabric (told_levels t) source (64 * t.blocks)) (IsKnownOf fabric (told_levels t) source) added
-      (λ o l k is. (is.0, known_low o l k is.1, is.1))
-      (λ o l k is. (is.0, is.2))
-
-  -- the source is an end port of the fabric
-  host_known : (fits : IsFabric fabric) (end lid level : ℕ) → IsLevelKnown fabric true (told_levels t) (port.Host end) lid level → end < length fabric.cables
-  host_known fits end lid level (inl has) = elim (cases_lt end t.ends) [
-    | inl low ↦ (let same = room.ends in omega arith)
-    | inr past ↦ absurd (no_bit level (ap (λ (n : ℕ). bit_at n level) (sym (levels_outside t (port.Host end) lid (λ low. omega arith))) ∙ has.1))
-  ]
-  host_known fits end lid level (inr reply) =
-      let owns = (fits.owners reply.1.asked (port.Host end)).0 reply.1.of_source in
-      let low = slice_get_within fabric.nodes.ends end owns.0 owns.1 in
-      let same = fits.cables in
-      omega arith
-
-  switch_known : (fits : IsFabric fabric) (switch lid level : ℕ) → IsLevelKnown fabric true (told_levels t) (port.Switch switch) lid level → switch < switch_count fabric
-  switch_known fits switch lid level (inl has) = elim (cases_lt switch t.switches) [
-    | inl low ↦ (let same = room.switches in omega arith)
-    | inr past ↦ absurd (no_bit level (ap (λ (n : ℕ). bit_at n level) (sym (levels_outside t (port.Switch switch) lid (λ low. omega arith))) ∙ has.1))
-  ]
-  switch_known fits switch lid level (inr reply) =
-      let owns = (fits.owners reply.1.asked (port.Switch switch)).0 reply.1.of_source in
-      slice_get_within fabric.nodes.switches switch owns.0 owns.1
-
-  abbrev Hosts : EndPort → ℕ → ℕ → Type 0
-  Hosts = IsKnownBelow fabric (told_levels t) port.Host (length fabric.cables)
-
-  abbrev Switches : EndPort → ℕ → ℕ → Type 0
-  Switches = IsKnownBelow fabric (told_levels t) port.Switch (switch_count fabric)
-
-  of_kind : (fits : IsFabric fabric) (source : EndPort) (lid level : ℕ) → IsLevelKnown fabric true (told_levels t) source lid level → Hosts source lid level ⊎ Switches source lid level
-  of_kind fits (port.Host end) lid level known = inl ((end, host_known fits end lid level known, refl), known)
-  of_kind fits (port.Switch switch) lid level known = inr ((switch, switch_known fits switch lid level known, refl), known)
-
-  -- all levels that are known, with replies
-  pub all_known : (fits : IsFabric fabric) (a b c : LevelsOf) → ((source : EndPort) (lid : ℕ) → a source lid ≡ 0) → AddsLevels a b Hosts → AddsLevels b c Switches → AreLevelsInUse fabric true None (told_levels t) c
-  all_known fits a b c none hosts switches = record {
-    each = λ source lid level. (
-      (λ has. elim (both.only source lid level has) [
-        | inl had ↦ absurd (no_bit level (ap (λ (n : ℕ). bit_at n level) (sym (none source lid)) ∙ had.1))
-        | inr is ↦ inl is
-      ]),
-      (λ used. elim used [
-        | inl is ↦ both.added source lid level is
-        | inr silent ↦ absurd (none-some level silent.0)
-      ]),
-    );
-  }
-    where
-      both : AddsLevels a c (IsLevelKnown fabric true (told_levels t))
-      both = more_added a b c Hosts Switches (IsLevelKnown fabric true (told_levels t)) hosts switches (of_kind fits) (λ o l k is. is.1) (λ o l k is. is.1)
+    (λ o l k is. (is.0, (let same = is.1 in omega arith), subst (λ (p : EndPort). IsLevelInUse fabric true given p l k) (sym is.0) (subst (λ (n : ℕ). IsLevelInUse fabric true given source n k) (sym is.1) ((bits k is.2).0 is.3))))
 
 -- the levels of a pair, with those of replies
-pub known_none : (fabric : FabricOf) (told : LevelsOf) (source : EndPort) (lid word level : ℕ) → level < 16 → word ≡ told source lid → owner_of fabric lid ≡ None → ((bit_at word level ≡ 1) ↔ IsLevelKnown fabric true told source lid level)
-known_none fabric told source lid word level low is none = (
+pub used_none : (fabric : FabricOf) (given : LevelsOf) (source : EndPort) (lid word level : ℕ) → level < 16 → word ≡ given source lid → owner_of fabric lid ≡ None → ((bit_at word level ≡ 1) ↔ IsLevelInUse fabric true given source lid level)
+used_none fabric given source lid word level low is none = (
   (λ has. inl (low, ap (λ (n : ℕ). bit_at n level) (sym is) ∙ has)),
-  (λ known. elim known [
+  (λ used. elim used [
     | inl has ↦ ap (λ (n : ℕ). bit_at n level) is ∙ has.1
     | inr reply ↦ absurd (none-some reply.1.owner (sym none ∙ reply.1.owns))
   ]),
 )
 
-pub known_both : (fabric : FabricOf) (told : LevelsOf) (source owner : EndPort) (lids : List ℕ) (lid word reply level : ℕ) → level < 16 → word ≡ told source lid → owner_of fabric lid ≡ Some owner → AreLidsOf fabric source lids
-    → ((bit_at reply level ≡ 1) ↔ IsAskedTo told owner lids level)
-    → ((bit_at (bit_or word reply) level ≡ 1) ↔ IsLevelKnown fabric true told source lid level)
-known_both fabric told source owner lids lid word reply level low is owns are bits = (
+pub used_both : (fabric : FabricOf) (given : LevelsOf) (source owner : EndPort) (lids : List ℕ) (lid word reply level : ℕ) → level < 16 → word ≡ given source lid → owner_of fabric lid ≡ Some owner → AreLidsOf fabric source lids
+    → ((bit_at reply level ≡ 1) ↔ IsAskedTo given owner lids level)
+    → ((bit_at (bit_or word reply) level ≡ 1) ↔ IsLevelInUse fabric true given source lid level)
+used_both fabric given source owner lids lid word reply level low is owns are bits = (
   (λ has. elim (or_cases word reply level has) [
     | inl bit ↦ inl (low, ap (λ (n : ℕ). bit_at n level) (sym is) ∙ bit)
     | inr bit ↦ (let asked = bits.0 bit in inr (refl, record { owner = owner; owns = owns; asked = asked.0; of_source = are.are asked.0 asked.1; has = asked.2 }))
   ]),
-  (λ known. elim known [
+  (λ used. elim used [
     | inl has ↦ or_left word reply level (ap (λ (n : ℕ). bit_at n level) is ∙ has.1)
-    | inr by ↦ or_right word reply level (bits.1 (by.1.asked, are.all by.1.asked by.1.of_source, subst (λ (p : EndPort). HasLevel told p by.1.asked level) (same_Some by.1.owner owner (sym by.1.owns ∙ owns)) by.1.has))
+    | inr by ↦ or_right word reply level (bits.1 (by.1.asked, are.all by.1.asked by.1.of_source, subst (λ (p : EndPort). HasLevel given p by.1.asked level) (same_Some by.1.owner owner (sym by.1.owns ∙ owns)) by.1.has))
   ]),
 )
 
 -- one end port of a kind more
-pub kind_more : (fabric : FabricOf) (told a b c : LevelsOf) (kind : ℕ → EndPort) (place : ℕ) → AddsLevels a b (IsKnownBelow fabric told kind place) → AddsLevels b c (IsKnownOf fabric told (kind place)) → AddsLevels a c (IsKnownBelow fabric told kind (place + 1))
-kind_more fabric told a b c kind place before added =
-    more_added a b c (IsKnownBelow fabric told kind place) (IsKnownOf fabric told (kind place)) (IsKnownBelow fabric told kind (place + 1)) before added
+pub kind_more : (fabric : FabricOf) (given a b c : LevelsOf) (kind : ℕ → EndPort) (place lids : ℕ) → AddsLevels a b (IsUsedBelow fabric given kind place lids) → AddsLevels b c (IsUsedTo fabric given (kind place) lids) → AddsLevels a c (IsUsedBelow fabric given kind (place + 1) lids)
+kind_more fabric given a b c kind place lids before added =
+    more_added a b c (IsUsedBelow fabric given kind place lids) (IsUsedTo fabric given (kind place) lids) (IsUsedBelow fabric given kind (place + 1) lids) before added
     (λ o l k is. elim (cases_eq is.0.0 place) [
-      | inl same ↦ inr (is.0.2 ∙ ap kind same, is.1)
-      | inr other ↦ inl ((is.0.0, (let less = is.0.1 in omega arith), is.0.2), is.1)
+      | inl same ↦ inr (is.0.2 ∙ ap kind same, is.1, is.2)
+      | inr other ↦ inl ((is.0.0, (let less = is.0.1 in omega arith), is.0.2), is.1, is.2)
     ])
-    (λ o l k is. ((is.0.0, (let less = is.0.1 in omega arith), is.0.2), is.1))
-    (λ o l k is. ((place, (let same = is.0 in omega arith), is.0), is.1))
+    (λ o l k is. ((is.0.0, (let less = is.0.1 in omega arith), is.0.2), is.1, is.2))
+    (λ o l k is. ((place, (let same = is.0 in omega arith), is.0), is.1, is.2))
 
--- levels that were told, if replies do not count
-pub told_known : (fabric : FabricOf) (told : LevelsOf) → AreLevelsInUse fabric false None told told
-told_known fabric told = record {
-  each = λ source lid level. (
-    (λ has. inl (inl has)),
-    (λ used. elim used [
-      | inl known ↦ (elim known [
-        | inl has ↦ has
-        | inr reply ↦ absurd (false≢true reply.0)
-      ])
-      | inr silent ↦ absurd (none-some level silent.0)
-    ]),
-  );
-}
+-- all end ports, of both kinds
+module _ (fabric : FabricOf) (given : LevelsOf) (r : LevelRowsOf) (ends : r.ends ≡ length fabric.cables) (switches : r.switches ≡ switch_count fabric) where
+  abbrev Hosts : EndPort → ℕ → ℕ → Type 0
+  Hosts = IsUsedBelow fabric given port.Host (length fabric.cables) (64 * r.blocks)
+
+  abbrev Switches : EndPort → ℕ → ℕ → Type 0
+  Switches = IsUsedBelow fabric given port.Switch (switch_count fabric) (64 * r.blocks)
+
+  abbrev Used : EndPort → ℕ → ℕ → Type 0
+  Used source lid level = IsPlaced r source × (lid < 64 * r.blocks) × IsLevelInUse fabric true given source lid level
+
+  of_kind : (source : EndPort) (lid level : ℕ) → Used source lid level → Hosts source lid level ⊎ Switches source lid level
+  of_kind (port.Host end) lid level used = inl ((end, (let low = used.0 in omega arith), refl), used.1, used.2)
+  of_kind (port.Switch switch) lid level used = inr ((switch, (let low = used.0 in omega arith), refl), used.1, used.2)
+
+  host_placed : (source : EndPort) (place : ℕ) → place < length fabric.cables → source ≡ port.Host place → IsPlaced r source
+  host_placed source place low is = subst (IsPlaced r) (sym is) (omega arith)
+
+  switch_placed : (source : EndPort) (place : ℕ) → place < switch_count fabric → source ≡ port.Switch place → IsPlaced r source
+  switch_placed source place low is = subst (IsPlaced r) (sym is) (omega arith)
+
+  pub all_used : (a b : LevelsOf) → ((source : EndPort) (lid : ℕ) → a source lid ≡ 0) → AddsLevels a b Hosts → AddsLevels b (told_levels r) Switches → AreUsedRows fabric given r
+  all_used a b none hosts of_switches = record {
+    ends = ends;
+    switches = switches;
+    each = λ source lid level. (
+      (λ has. elim (both.only source lid level has) [
+        | inl had ↦ absurd (no_bit level (ap (λ (n : ℕ). bit_at n level) (sym (none source lid)) ∙ had.1))
+        | inr is ↦ is
+      ]),
+      both.added source lid level,
+    );
+  }
+    where
+      both : AddsLevels a (told_levels r) Used
+      both = more_added a b (told_levels r) Hosts Switches Used hosts of_switches of_kind
+          (λ o l k is. (host_placed o is.0.0 is.0.1 is.0.2, is.1, is.2))
+          (λ o l k is. (switch_placed o is.0.0 is.0.1 is.0.2, is.1, is.2))
 
 -- a number with no bit of 0 to 15, or with one
 low_bits : (n k : ℕ) → k < 16 → bit_at n k ≡ bit_at (n % 2 ^ 16) k
@@ -371,50 +337,204 @@ filled_some n silent some =
     let test : (eqb (n % 2 ^ 16) 0 && ltb silent 16) ≡ false = grind (arith, nat_tests) in
     ap (λ (b : Bool). cond b (2 ^ silent) n) test
 
--- pairs that have no level have this one
-module _ (fabric : FabricOf) (replies : Bool) (told known : LevelsOf) (silent : ℕ) (low : silent < 16) (are : AreLevelsInUse fabric replies None told known) where
-  abbrev used : LevelsOf
-  used source lid = filled (known source lid) silent
+filled_high : (n silent : ℕ) → 16 ≤ silent → filled n silent ≡ n
+filled_high n silent high =
+    let test : (eqb (n % 2 ^ 16) 0 && ltb silent 16) ≡ false = grind (arith, nat_tests) in
+    ap (λ (b : Bool). cond b (2 ^ silent) n) test
 
-  is_known : (source : EndPort) (lid level : ℕ) → HasLevel known source lid level → IsLevelKnown fabric replies told source lid level
-  is_known source lid level has = elim ((are.each source lid level).0 has) [
-    | inl is ↦ is
-    | inr none ↦ absurd (none-some level none.0)
+-- a pair that has no level has that of silent pairs, and any other one keeps its levels
+module _ (levels : LevelsOf) (silent : ℕ) (low : silent < 16) where
+  abbrev Filled : LevelsOf
+  Filled source lid = filled (levels source lid) silent
+
+  silent_has : (source : EndPort) (lid level : ℕ) → levels source lid % 2 ^ 16 ≡ 0 → silent ≡ level → HasLevel Filled source lid level
+  silent_has source lid level zero same = ((omega arith), ap (λ (n : ℕ). bit_at n level) (filled_none (levels source lid) silent zero low) ∙ ap (bit_at (2 ^ silent)) (sym same) ∙ bit_at-pow_same silent)
+
+  is_silent : (source : EndPort) (lid level : ℕ) → levels source lid % 2 ^ 16 ≡ 0 → HasLevel Filled source lid level → silent ≡ level
+  is_silent source lid level zero has = sym (pow_bit silent level (ap (λ (n : ℕ). bit_at n level) (sym (filled_none (levels source lid) silent zero low)) ∙ has.1))
+
+  had_level : (source : EndPort) (lid level : ℕ) → levels source lid % 2 ^ 16 ≢ 0 → HasLevel Filled source lid level → HasLevel levels source lid level
+  had_level source lid level some has = (has.0, ap (λ (n : ℕ). bit_at n level) (sym (filled_some (levels source lid) silent some)) ∙ has.1)
+
+  keeps_level : (source : EndPort) (lid level : ℕ) → HasLevel levels source lid level → HasLevel Filled source lid level
+  keeps_level source lid level has = elim (cases_eq (levels source lid % 2 ^ 16) 0) [
+    | inl zero ↦ absurd (no_level (levels source lid) level zero has.0 has.1)
+    | inr some ↦ (has.0, ap (λ (n : ℕ). bit_at n level) (filled_some (levels source lid) silent some) ∙ has.1)
   ]
 
-  in_none : (source : EndPort) (lid level : ℕ) → known source lid % 2 ^ 16 ≡ 0 → HasLevel used source lid level → IsLevelInUse fabric replies (Some silent) told source lid level
-  in_none source lid level zero has =
-      let same : level ≡ silent = pow_bit silent level (ap (λ (n : ℕ). bit_at n level) (sym (filled_none (known source lid) silent zero low)) ∙ has.1) in
-      inr (ap (λ (n : ℕ). Some n) (sym same), λ other is. (let had = (are.each source lid other).1 (inl is) in no_level (known source lid) other zero had.0 had.1))
-
-  used_is : (source : EndPort) (lid level : ℕ) → HasLevel used source lid level → IsLevelInUse fabric replies (Some silent) told source lid level
-  used_is source lid level has = elim (cases_eq (known source lid % 2 ^ 16) 0) [
-    | inl zero ↦ in_none source lid level zero has
-    | inr some ↦ inl (is_known source lid level (has.0, ap (λ (n : ℕ). bit_at n level) (sym (filled_some (known source lid) silent some)) ∙ has.1))
+  has_none : (source : EndPort) (lid : ℕ) → ((level : ℕ) → HasLevel levels source lid level → ⊥) → levels source lid % 2 ^ 16 ≡ 0
+  has_none source lid none = elim (cases_eq (levels source lid % 2 ^ 16) 0) [
+    | inl zero ↦ zero
+    | inr some ↦ (let one = some_level (levels source lid) some in absurd (none one.0 (one.1, one.2)))
   ]
 
-  known_used : (source : EndPort) (lid level : ℕ) → HasLevel known source lid level → HasLevel used source lid level
-  known_used source lid level has = elim (cases_eq (known source lid % 2 ^ 16) 0) [
-    | inl zero ↦ absurd (no_level (known source lid) level zero has.0 has.1)
-    | inr some ↦ (has.0, ap (λ (n : ℕ). bit_at n level) (filled_some (known source lid) silent some) ∙ has.1)
+  some_filled : (source : EndPort) (lid : ℕ) → (level : ℕ) × HasLevel Filled source lid level
+  some_filled source lid = elim (cases_eq (levels source lid % 2 ^ 16) 0) [
+    | inl zero ↦ (silent, silent_has source lid silent zero refl)
+    | inr some ↦ (let one = some_level (levels source lid) some in (one.0, keeps_level source lid one.0 (one.1, one.2)))
   ]
 
-  silent_used : (source : EndPort) (lid level : ℕ) → silent ≡ level → ((other : ℕ) → ¬ IsLevelKnown fabric replies told source lid other) → HasLevel used source lid level
-  silent_used source lid level same none = elim (cases_eq (known source lid % 2 ^ 16) 0) [
-    | inl zero ↦ ((omega arith), ap (λ (n : ℕ). bit_at n level) (filled_none (known source lid) silent zero low) ∙ ap (bit_at (2 ^ silent)) (sym same) ∙ bit_at-pow_same silent)
-    | inr some ↦ (let one = some_level (known source lid) some in absurd (none one.0 (is_known source lid one.0 (one.1, one.2))))
-  ]
-
-  pub filled_in_use : AreLevelsInUse fabric replies (Some silent) told used
-  filled_in_use = record {
+  -- the levels that are given, if silent pairs have this one
+  pub filled_given : AreLevelsGiven (Some silent) levels Filled
+  filled_given = record {
     each = λ source lid level. (
-      used_is source lid level,
-      (λ used. elim used [
-        | inl is ↦ known_used source lid level ((are.each source lid level).1 (inl is))
-        | inr mute ↦ silent_used source lid level (same_Some silent level mute.0) mute.1
+      (λ has. elim (cases_eq (levels source lid % 2 ^ 16) 0) [
+        | inl zero ↦ inr (ap (λ (n : ℕ). Some n) (is_silent source lid level zero has), λ other had. no_level (levels source lid) other zero had.0 had.1)
+        | inr some ↦ inl (had_level source lid level some has)
+      ]),
+      (λ given. elim given [
+        | inl had ↦ keeps_level source lid level had
+        | inr mute ↦ silent_has source lid level (has_none source lid (λ other had. mute.1 other had)) (same_Some silent level mute.0)
       ]),
     );
   }
+
+-- .. and if none is given
+pub told_given : (told : LevelsOf) → AreLevelsGiven None told told
+told_given told = record {
+  each = λ source lid level. (
+    (λ has. inl has),
+    (λ given. elim given [
+      | inl has ↦ has
+      | inr mute ↦ absurd (none-some level mute.0)
+    ]),
+  );
+}
+
+-- the levels in use, if replies do not count, or if all pairs have the same levels
+pub given_used : (fabric : FabricOf) (given : LevelsOf) → AreLevelsInUse fabric false given given
+given_used fabric given = record {
+  each = λ source lid level. (
+    (λ has. inl has),
+    (λ used. elim used [
+      | inl has ↦ has
+      | inr reply ↦ absurd (false≢true reply.0)
+    ]),
+  );
+}
+
+pub same_used : (fabric : FabricOf) (replies : Bool) (word : ℕ) → AreLevelsInUse fabric replies (λ source lid. word) (λ source lid. word)
+same_used fabric replies word = record {
+  each = λ source lid level. (
+    (λ has. inl has),
+    (λ used. elim used [
+      | inl has ↦ has
+      | inr reply ↦ (let by = reply.1 in by.has)
+    ]),
+  );
+}
+
+-- those of a fabric that are kept in rows, with replies
+module _ (fabric : FabricOf) (fits : IsFabric fabric) (t r : LevelRowsOf) (room : HasRoom fabric t) (wide : 64 * t.blocks ≤ 64 * r.blocks) where
+  abbrev In : EndPort → ℕ → Type 0
+  In source lid = IsPlaced r source × (lid < 64 * r.blocks)
+
+  owned_low : (lid : ℕ) (owner : EndPort) → owner_of fabric lid ≡ Some owner → lid < 64 * r.blocks
+  owned_low lid owner is = elim (cases_lt lid (length fabric.owners)) [
+    | inl low ↦ (let fits = room.lids in omega arith)
+    | inr past ↦ absurd (none-some owner (sym (get_or_past fabric.owners lid None past) ∙ is))
+  ]
+
+  owner_placed : r.ends ≡ length fabric.cables → r.switches ≡ switch_count fabric → (lid : ℕ) (owner : EndPort) → owner_of fabric lid ≡ Some owner → IsPlaced r owner
+  owner_placed ends switches lid (port.Host end) is =
+      let owns = (fits.owners lid (port.Host end)).0 is in
+      let low = slice_get_within fabric.nodes.ends end owns.0 owns.1 in
+      let same = fits.cables in
+      omega arith
+  owner_placed ends switches lid (port.Switch switch) is =
+      let owns = (fits.owners lid (port.Switch switch)).0 is in
+      let low = slice_get_within fabric.nodes.switches switch owns.0 owns.1 in
+      omega arith
+
+  told_placed : r.ends ≡ length fabric.cables → r.switches ≡ switch_count fabric → (source : EndPort) → IsPlaced t source → IsPlaced r source
+  told_placed ends switches (port.Host end) low = let same = room.ends in omega arith
+  told_placed ends switches (port.Switch switch) low = let same = room.switches in omega arith
+
+  placed_or : (q : LevelRowsOf) (source : EndPort) → IsPlaced q source ⊎ (IsPlaced q source → ⊥)
+  placed_or q (port.Host end) = elim (cases_lt end q.ends) [
+    | inl low ↦ inl low
+    | inr past ↦ inr (λ low. omega arith)
+  ]
+  placed_or q (port.Switch switch) = elim (cases_lt switch q.switches) [
+    | inl low ↦ inl low
+    | inr past ↦ inr (λ low. omega arith)
+  ]
+
+  -- rows say nothing of other pairs
+  out_of : (q : LevelRowsOf) (source : EndPort) (lid : ℕ) → (IsPlaced q source × (lid < 64 * q.blocks) → ⊥) → told_levels q source lid ≡ 0
+  out_of q source lid out = elim (cases_lt lid (64 * q.blocks)) [
+    | inl low ↦ levels_outside q source lid (λ placed. out (placed, low))
+    | inr past ↦ levels_past q lid (place_of_source q source) past
+  ]
+
+  in_or : (source : EndPort) (lid : ℕ) → In source lid ⊎ (In source lid → ⊥)
+  in_or source lid = elim (cases_lt lid (64 * r.blocks)) [
+    | inl low ↦ (elim (placed_or r source) [
+      | inl placed ↦ inl (placed, low)
+      | inr not ↦ inr (λ is. not is.0)
+    ])
+    | inr past ↦ inr (λ is. (let low = is.1 in omega arith))
+  ]
+
+  module _ (ends : r.ends ≡ length fabric.cables) (switches : r.switches ≡ switch_count fabric) where
+    out_told : (source : EndPort) (lid : ℕ) → (In source lid → ⊥) → told_levels t source lid ≡ 0
+    out_told source lid out = out_of t source lid (λ is. out (told_placed ends switches source is.0, (let low = is.1 in omega arith)))
+
+    reply_in : (given : LevelsOf) (source : EndPort) (lid level : ℕ) → HasReplyLevel fabric given source lid level → In source lid
+    reply_in given source lid level reply = (owner_placed ends switches reply.asked source reply.of_source, owned_low lid reply.owner reply.owns)
+
+  pub rows_used : AreUsedRows fabric (told_levels t) r → AreLevelsInUse fabric true (told_levels t) (told_levels r)
+  rows_used rows = record {
+    each = λ source lid level. (
+      (λ has. ((rows.each source lid level).0 has).2),
+      (λ used. elim (in_or source lid) [
+        | inl is ↦ (rows.each source lid level).1 (is.0, is.1, used)
+        | inr out ↦ (elim used [
+          | inl has ↦ absurd (no_bit level (ap (λ (n : ℕ). bit_at n level) (sym (out_told rows.ends rows.switches source lid out)) ∙ has.1))
+          | inr reply ↦ absurd (out (reply_in rows.ends rows.switches (told_levels t) source lid level reply.1))
+        ])
+      ]),
+    );
+  }
+
+  -- .. if silent pairs have a level, too
+  module _ (silent : ℕ) (low : silent < 16) where
+    abbrev Given : LevelsOf
+    Given = Filled (told_levels t) silent low
+
+    abbrev Uses : LevelsOf
+    Uses = Filled (told_levels r) silent low
+
+    module _ (rows : AreUsedRows fabric Given r) where
+      rows_none : (source : EndPort) (lid : ℕ) → (In source lid → ⊥) → told_levels r source lid % 2 ^ 16 ≡ 0
+      rows_none source lid out = ap (λ (n : ℕ). n % 2 ^ 16) (out_of r source lid out)
+
+      told_none : (source : EndPort) (lid : ℕ) → (In source lid → ⊥) → told_levels t source lid % 2 ^ 16 ≡ 0
+      told_none source lid out = ap (λ (n : ℕ). n % 2 ^ 16) (out_told rows.ends rows.switches source lid out)
+
+      rows_some : (source : EndPort) (lid : ℕ) → In source lid → told_levels r source lid % 2 ^ 16 ≡ 0 → ⊥
+      rows_some source lid is zero =
+          let one = some_filled (told_levels t) silent low source lid in
+          let has = (rows.each source lid one.0).1 (is.0, is.1, inl one.1) in
+          no_level (told_levels r source lid) one.0 zero has.0 has.1
+
+      uses_is : (source : EndPort) (lid level : ℕ) → HasLevel Uses source lid level → IsLevelInUse fabric true Given source lid level
+      uses_is source lid level has = elim (in_or source lid) [
+        | inl is ↦ ((rows.each source lid level).0 (had_level (told_levels r) silent low source lid level (rows_some source lid is) has)).2
+        | inr out ↦ inl (silent_has (told_levels t) silent low source lid level (told_none source lid out) (is_silent (told_levels r) silent low source lid level (rows_none source lid out) has))
+      ]
+
+      is_used : (source : EndPort) (lid level : ℕ) → IsLevelInUse fabric true Given source lid level → HasLevel Uses source lid level
+      is_used source lid level used = elim (in_or source lid) [
+        | inl is ↦ keeps_level (told_levels r) silent low source lid level ((rows.each source lid level).1 (is.0, is.1, used))
+        | inr out ↦ (elim used [
+          | inl has ↦ silent_has (told_levels r) silent low source lid level (rows_none source lid out) (is_silent (told_levels t) silent low source lid level (told_none source lid out) has)
+          | inr reply ↦ absurd (out (reply_in rows.ends rows.switches Given source lid level reply.1))
+        ])
+      ]
+
+      pub filled_used : AreLevelsInUse fabric true Given Uses
+      filled_used = record { each = λ source lid level. (uses_is source lid level, is_used source lid level) }
 
 -- a level of those that are filled in is below both counts
 pub filled_below : (levels : LevelsOf) (silent count most : ℕ) → ((source : EndPort) (lid level : ℕ) → HasLevel levels source lid level → level < count) → ((level : ℕ) → level < 16 → bit_at (filled 0 silent) level ≡ 1 → level < most) → (source : EndPort) (lid level : ℕ) → HasLevel (λ s l. filled (levels s l) silent) source lid level → level < max count most
@@ -425,8 +545,3 @@ filled_below levels silent count most below below_too source lid level has = eli
   ])
   | inr some ↦ (let less = below source lid level (has.0, ap (λ (n : ℕ). bit_at n level) (sym (filled_some (levels source lid) silent some)) ∙ has.1) in omega arith)
 ]
-  where
-    filled_high : (n silent : ℕ) → 16 ≤ silent → filled n silent ≡ n
-    filled_high n silent high =
-        let test : (eqb (n % 2 ^ 16) 0 && ltb silent 16) ≡ false = grind (arith, nat_tests) in
-        ap (λ (b : Bool). cond b (2 ^ silent) n) test

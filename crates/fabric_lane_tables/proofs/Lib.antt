@@ -3,3 +3,4 @@ pub mod BlockLemmas
 pub mod SelectLemmas
 mod SameLemmas
 mod InUseLemmas
+mod WideLemmas

@@ -23,10 +23,10 @@ is_same p q same = grind (arith, nat_tests)
 is_other : (p q : ℕ) → p ≢ q → eqb p q ≡ false
 is_other p q other = grind (arith, nat_tests)
 
-here_now : (t : LevelRowsOf) (p lid : ℕ) → p ≡ t.current → levels_here t p lid ≡ get_or t.row lid 0
+pub here_now : (t : LevelRowsOf) (p lid : ℕ) → p ≡ t.current → levels_here t p lid ≡ get_or t.row lid 0
 here_now t p lid same = ap (λ (b : Bool). cond b (get_or t.row lid 0) (stored_at t p lid)) (is_same p t.current same)
 
-here_stored : (t : LevelRowsOf) (p lid : ℕ) → p ≢ t.current → levels_here t p lid ≡ stored_at t p lid
+pub here_stored : (t : LevelRowsOf) (p lid : ℕ) → p ≢ t.current → levels_here t p lid ≡ stored_at t p lid
 here_stored t p lid other = ap (λ (b : Bool). cond b (get_or t.row lid 0) (stored_at t p lid)) (is_other p t.current other)
 
 -- a place of an end port and a LID is one of the places

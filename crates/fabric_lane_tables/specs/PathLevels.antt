@@ -131,6 +131,18 @@ ReadsBlocks rows places first row =
     (lid : ℕ) → lid < length row
     → slice_index row lid ≡ block_word rows (slice_index_or places (first + lid / 64) 4294967295) lid
 
+-- the place of a block in a row of places that has so many: one beyond them has none
+abbrev pub wide_place : (places : List ℕ) → (old row block : ℕ) → ℕ
+wide_place places old row block =
+    if nat_lt block old then slice_index_or places (row * old + block) 4294967295 else 4294967295
+
+-- so many rows of places have more each, and say what they said
+pub record AreWidened (places : List ℕ) (rows old new : ℕ) (wide : List ℕ) : Type 0 where
+  pub size : length wide ≡ rows * new
+  pub each :
+      (k : ℕ) → k < rows * new
+      → slice_index_or wide k 4294967295 ≡ wide_place places old (k / new) (k % new)
+
 -- the levels are the same, of as many end ports and LIDs
 pub record SaysAsMuch (old new : LevelRowsOf) : Type 0 where
   pub ends : new.ends ≡ old.ends

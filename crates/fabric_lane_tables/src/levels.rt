@@ -7,7 +7,7 @@ ghost use Rattle.fabric_model.specs.declared.node.EndPort.{EndPort};
 ghost use Rattle.fabric_lane_tables.specs.Levels.{filled, levels_of};
 ghost use Rattle.fabric_lane_tables.specs.PathLevels.{AreLevelsBelow, AreBlocksOf, AreOthersSame, ArePlaces, HasBlockAt, IsLevelAdded};
 ghost use Rattle.fabric_lane_tables.specs.PathLevels.{HaveSameLevels, IsPlaced, KeepsBlocks, ReadsBlocks};
-ghost use Rattle.fabric_lane_tables.specs.PathLevels.{SaysAsMuch, block_word, told_levels, place_of_source, stored_at};
+ghost use Rattle.fabric_lane_tables.specs.PathLevels.{AreWidened, SaysAsMuch, block_word, wide_place, told_levels, place_of_source, stored_at};
 
 use crate::lanes::LEVELS;
 use common_values::memory::OutOfMemory;
@@ -163,6 +163,38 @@ fn load(row: &mut [u16], rows: &IndexSet<[u16; 64]>, places: &[u32], first: usiz
     }
 }
 
+// The place of a block in a row of some that have so many each; one beyond them has none.
+#[inline]
+fn place_in(places: &[u32], old: usize, row: usize, block: usize) -> u32
+    requires { block < old → row * old + block < length places.now }
+    ensures { result ≡ wide_place places.now old row block }
+{
+    if block < old {
+        return places[row * old + block];
+    }
+    UNTOLD
+}
+
+// The places of the blocks of so many rows, each of which gets more.
+fn widened(
+    alloc: Global,
+    places: &[u32],
+    rows: usize,
+    old: usize,
+    new: usize,
+) -> Result<Vec<u32>, OutOfMemory>
+    requires size { length places.now ≡ rows * old }
+    requires rows { rows < 2 ^ 20 }
+    requires new { new ≤ 1024 }
+    ensures { IfOk result (λ wide. AreWidened places.now rows old new wide.items) }
+{
+    let mut wide = Vec::with_capacity(alloc, rows * new)?;
+    'places: for index in 0..rows * new {
+        wide.push(place_in(places, old, index / new, index % new))?;
+    }
+    Ok(wide)
+}
+
 impl LevelRows {
     /// Those of so many end ports of adapters and routers, and so many switches, to the LIDs below a
     /// number; none was told yet.
@@ -316,7 +348,47 @@ impl LevelRows {
         self.count
     }
 
-    /// Adds one level of an end port and a LID. After want of memory the levels are not known.
+    // Makes room for so many blocks.
+    fn widen(&mut self, alloc: Global, blocks: usize) -> Result<(), OutOfMemory>
+        requires more { self.old.blocks ≤ blocks }
+        requires few { blocks ≤ 1024 }
+        ensures ends { OnOk result (self.new.ends ≡ self.old.ends) }
+        ensures switches { OnOk result (self.new.switches ≡ self.old.switches) }
+        ensures blocks { OnOk result (self.new.blocks ≡ blocks) }
+        ensures same { OnOk result ((source : EndPort) (lid : ℕ)
+            → told_levels self.new source lid ≡ told_levels self.old source lid) }
+    {
+        let places = widened(
+            alloc,
+            &self.places,
+            self.ends + self.switches,
+            self.blocks,
+            blocks,
+        )?;
+        self.row.resize(64 * blocks, 0)?;
+        self.places = places;
+        self.blocks = blocks;
+        Ok(())
+    }
+
+    /// Makes room for a LID, if there is none, and for as many more as there were, so that LIDs one after another take time
+    /// in proportion. Each level stays, and no pair has a new one. The error is out of memory.
+    pub fn make_room(&mut self, alloc: Global, lid: usize) -> Result<(), OutOfMemory>
+        requires { lid < 2 ^ 16 }
+        ensures room { OnOk result (lid < 64 * self.new.blocks) }
+        ensures less { OnOk result (self.old.blocks ≤ self.new.blocks) }
+        ensures ends { OnOk result (self.new.ends ≡ self.old.ends) }
+        ensures switches { OnOk result (self.new.switches ≡ self.old.switches) }
+        ensures same { OnOk result ((source : EndPort) (lid : ℕ)
+            → told_levels self.new source lid ≡ told_levels self.old source lid) }
+    {
+        if lid < 64 * self.blocks {
+            return Ok(());
+        }
+        self.widen(alloc, (lid / 64 + 1).max(2 * self.blocks).min(1024))
+    }
+
+    /// Adds one level of an end port and a LID. If the error is out of memory, the levels are not known.
     pub fn add(&mut self, source: EndPort, lid: usize, level: usize) -> Result<(), OutOfMemory>
         requires source { IsPlaced self.old source }
         requires lid { lid < 64 * self.old.blocks }

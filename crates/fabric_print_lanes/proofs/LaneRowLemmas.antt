@@ -1,14 +1,12 @@
 -- The rows of an answer for tables with lanes, one after another.
-use Rattle.std.proofs.Common.{◌≡◌, ◌∙◌, sym, ap, ℕ, Bool, Option, List, [], ◌∷◌, ◌++◌, append_assoc, append-nil, map}
+use Rattle.std.proofs.Common.{◌≡◌, ◌∙◌, sym, ap, ℕ, List, [], ◌∷◌, ◌++◌, append_assoc, append-nil, map}
 use Rattle.std.specs.Prelude.{codes}
-use Rattle.std.specs.Fmt.{decimal}
 use Rattle.std.proofs.lemmas.Grind.{flat_map-append}
 use Rattle.common_lines.specs.Lines.{line_text, lines_text}
 use Rattle.fabric_print.specs.Answers.{Row, channels_row, cycle_rows_by, name_row, read_row, routes_row, unset_rows}
 use Rattle.fabric_print.proofs.RowLemmas.{onward}
-use Rattle.fabric_print_lanes.specs.declared.answer.Asked.{Asked}
 use Rattle.fabric_print_lanes.specs.declared.answer.LaneAnswer.{LaneAnswer}
-use Rattle.fabric_print_lanes.specs.LaneAnswers.{lane_answer_rows, lane_answer_text, lane_channel_row, lane_judged_row, lane_lost_rows, levels_word, mute_rows, note_rows, replies_words, silent_rows, silent_words}
+use Rattle.fabric_print_lanes.specs.LaneAnswers.{lane_answer_rows, lane_answer_text, lane_channel_row, lane_judged_row, lane_lost_rows, mute_rows, note_rows, silent_rows}
 
 -- two parts of a text that goes on
 two : (xs ys : List Row) (rest : List ℕ) → lines_text (xs ++ ys) ++ rest ≡ lines_text xs ++ (lines_text ys ++ rest)
@@ -55,11 +53,3 @@ answer_is a t0 t1 t2 t3 t4 t5 t6 t7 t8 t9 t10 t11 t12 traffic word h1 h2 h3 h4 h
     let e2 = onward t1 p2 (p3 ++ (p4 ++ (p5 ++ (p6 ++ (p7 ++ (p8 ++ (p9 ++ (p10 ++ (p11 ++ p12))))))))) t2 t12 h2 e3 in
     let e1 = onward t0 p1 (p2 ++ (p3 ++ (p4 ++ (p5 ++ (p6 ++ (p7 ++ (p8 ++ (p9 ++ (p10 ++ (p11 ++ p12)))))))))) t1 t12 h1 e2 in
     e1 ∙ ap (λ (t : List ℕ). t0 ++ (p1 ++ (p2 ++ (p3 ++ (p4 ++ t))))) (sym (last_rows (silent_rows a.silent) (mute_rows a.mute) channels (cycle_rows_by lane_channel_row a.cycle.items) (note_rows a.asked.levels a.cycle.items) (lane_lost_rows a.losses a.lost.items) (unset_rows a.unset) (map name_row a.names.items)))
-
--- the row of what was judged, by its words
-pub judged_is : (text old traffic levels : List ℕ) (lanes : ℕ) (asked : Asked) (replies : Bool) (silent : Option ℕ) → levels ≡ levels_word asked.levels → asked.replies ≡ replies → asked.silent ≡ silent → text ≡ old ++ line_text (codes "judged" ∷ codes "traffic" ∷ traffic ∷ codes "lanes" ∷ decimal lanes ∷ codes "levels" ∷ levels ∷ (replies_words replies ++ silent_words silent)) → text ≡ old ++ line_text (lane_judged_row traffic lanes asked)
-judged_is text old traffic levels lanes asked replies silent one two three is =
-    is
-    ∙ ap (λ (w : List ℕ). old ++ line_text (codes "judged" ∷ codes "traffic" ∷ traffic ∷ codes "lanes" ∷ decimal lanes ∷ codes "levels" ∷ w ∷ (replies_words replies ++ silent_words silent))) one
-    ∙ ap (λ (b : Bool). old ++ line_text (codes "judged" ∷ codes "traffic" ∷ traffic ∷ codes "lanes" ∷ decimal lanes ∷ codes "levels" ∷ levels_word asked.levels ∷ (replies_words b ++ silent_words silent))) (sym two)
-    ∙ ap (λ (o : Option ℕ). old ++ line_text (codes "judged" ∷ codes "traffic" ∷ traffic ∷ codes "lanes" ∷ decimal lanes ∷ codes "levels" ∷ levels_word asked.levels ∷ (replies_words asked.replies ++ silent_words o))) (sym three)

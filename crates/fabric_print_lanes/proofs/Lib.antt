@@ -1,2 +1,1 @@
 mod LaneRowLemmas
-mod LanePictureLemmas

@@ -16,15 +16,15 @@ pub enum LevelsAsked {
 /// With which service levels end ports send, as a call asks.
 #[derive(Clone, Copy)]
 pub struct Asked {
-    /// Which levels are told.
+    /// Which levels it names.
     pub levels: LevelsAsked,
     /// Whether a reply has the level of its request.
     pub replies: bool,
-    /// The level of an end port and a LID that have none otherwise, if one is given.
+    /// The level of an end port and a LID for which no level was read, if the call names one.
     pub silent: Option<u8>,
 }
 
-/// A pair of an end port and a LID that has no service level.
+/// A pair of an end port and a LID that is given no service level.
 #[derive(Clone, Copy)]
 pub struct Mute {
     /// The LID to which the end port sends.
@@ -104,7 +104,7 @@ pub struct LaneAnswer {
     pub asked: Asked,
     /// The routes of the traffic, each level of an end port and a LID one.
     pub routes: Routes,
-    /// How many pairs of an end port and a LID to which it sends have no level.
+    /// How many pairs of an end port and a LID to which it sends are given no level.
     pub silent: u64,
     /// The first of them, if there are any.
     pub mute: Option<Mute>,

@@ -1,17 +1,15 @@
 //! A credit loop over lanes as a picture, in the language of Graphviz.
 
-ghost use Rattle.std.specs.Prelude.{◌≡◌, IfOk, map};
-ghost use Rattle.fabric_print.specs.Pictures.{picture_text_by};
-ghost use Rattle.fabric_print.specs.RowWords.{word_text};
-ghost use Rattle.fabric_print_lanes.specs.LanePictures.{lane_arrow_row, lane_picture_text};
+ghost use Rattle.std.specs.Prelude.{◌≡◌, IfOk};
+ghost use Rattle.fabric_print_lanes.specs.LanePictures.{lane_picture_text};
 
 use crate::answer::Asked;
-use crate::printer::levels_word;
+use crate::printer::asked_words;
 use common_values::memory::OutOfMemory;
 use fabric_print::answer::Name;
 use fabric_print::picture::{Arrow, print_picture_by, push_arrow};
-use fabric_print::row::RowWord::{Loop, Number, OnLane, Text};
-use fabric_print::row::{HasRow, RowWord};
+use fabric_print::row::HasRow;
+use fabric_print::row::RowWord::{Loop, OnLane};
 use std::alloc::Global;
 
 /// A channel of a credit loop over lanes.
@@ -44,47 +42,10 @@ pub struct LanePicture {
 pub fn print_picture(alloc: Global, picture: &LanePicture) -> Result<Vec<u8>, OutOfMemory>
     ensures { IfOk result (λ text. text.items ≡ lane_picture_text picture.now) }
 {
-    let traffic = Text(picture.traffic.as_bytes());
-    let on = Text(b"lanes");
-    let lanes = Number(picture.lanes);
-    let with = Text(b"levels");
-    let levels = levels_word(picture.asked.levels);
-    let no = Text(b"replies no");
-    let arrows = Loop(picture.arrows.len());
-    match (picture.asked.replies, picture.asked.silent) {
-        (true, None) => print_by(alloc, &[traffic, on, lanes, with, levels, arrows], picture),
-        (false, None) => print_by(
-            alloc,
-            &[traffic, on, lanes, with, levels, no, arrows],
-            picture,
-        ),
-        (true, Some(silent)) => {
-            let level = Number(u64::from(silent));
-            let last = Text(b"silent");
-            print_by(
-                alloc,
-                &[traffic, on, lanes, with, levels, last, level, arrows],
-                picture,
-            )
-        }
-        (false, Some(silent)) => {
-            let level = Number(u64::from(silent));
-            let last = Text(b"silent");
-            print_by(
-                alloc,
-                &[traffic, on, lanes, with, levels, no, last, level, arrows],
-                picture,
-            )
-        }
-    }
-}
-
-// The text of a picture with this title.
-fn print_by(alloc: Global, title: &[RowWord], picture: &LanePicture) -> Result<Vec<u8>, OutOfMemory>
-    ensures { IfOk result (λ text. text.items ≡ picture_text_by lane_arrow_row (map word_text title.now)
-        picture.now.names.items picture.now.arrows.items) }
-{
-    print_picture_by(alloc, title, &picture.names, &picture.arrows)
+    let traffic = picture.traffic.as_bytes();
+    let mut title = asked_words(alloc, traffic, picture.lanes, picture.asked)?;
+    title.push(Loop(picture.arrows.len()))?;
+    print_picture_by(alloc, &title, &picture.names, &picture.arrows)
 }
 
 impl HasRow for LaneArrow {

@@ -1,9 +1,9 @@
 //! The printer of answers for tables with lanes.
 
-ghost use Rattle.std.specs.Prelude.{◌≡◌, ◌++◌, OnOk, IfOk};
+ghost use Rattle.std.specs.Prelude.{◌≡◌, ◌++◌, map, OnOk, IfOk};
 ghost use Rattle.common_lines.specs.Lines.{line_text, lines_text};
 ghost use Rattle.fabric_print.specs.RowWords.{word_text};
-ghost use Rattle.fabric_print_lanes.specs.LaneAnswers.{lane_answer_text, lane_judged_row, lane_losses_row, lane_lost_rows, levels_word, loss_word, mute_rows, note_rows, silent_rows};
+ghost use Rattle.fabric_print_lanes.specs.LaneAnswers.{asked_words, lane_answer_text, lane_judged_row, lane_losses_row, lane_lost_rows, levels_word, loss_word, mute_rows, note_rows, silent_rows};
 
 use crate::answer::{
     Asked, LaneAnswer, LaneLosses, LaneLost, LaneStep, LevelsAsked, LossCause, Mute,
@@ -48,7 +48,29 @@ fn push_answer(alloc: Global, text: &mut Vec<u8>, answer: &LaneAnswer) -> Result
     push_rows(alloc, text, &answer.names)
 }
 
-// Which traffic was judged, on how many lanes, and with which levels.
+// The words that say which traffic was judged, on how many lanes, and with which levels.
+pub(crate) fn asked_words<'a>(
+    alloc: Global,
+    traffic: &'a [u8],
+    lanes: u64,
+    asked: Asked,
+) -> Result<Vec<RowWord<'a>>, OutOfMemory>
+    ensures { IfOk result (λ words. map word_text words.items ≡ asked_words traffic.now lanes asked) }
+{
+    let on = Text(b"lanes");
+    let with = Text(b"levels");
+    let levels = levels_word(asked.levels);
+    let mut words = vec![in alloc; Text(traffic), on, Number(lanes), with, levels]?;
+    if !asked.replies {
+        words.push(Text(b"replies no"))?;
+    }
+    if let Some(level) = asked.silent {
+        words.push(Text(b"silent"))?;
+        words.push(Number(u64::from(level)))?;
+    }
+    Ok(words)
+}
+
 fn push_judged(
     alloc: Global,
     text: &mut Vec<u8>,
@@ -59,48 +81,9 @@ fn push_judged(
     ensures { OnOk result
         (text.new.items ≡ text.old.items ++ line_text (lane_judged_row traffic.now lanes asked)) }
 {
-    let judged = Text(b"judged");
-    let word = Text(b"traffic");
-    let traffic = Text(traffic);
-    let on = Text(b"lanes");
-    let lanes = Number(lanes);
-    let with = Text(b"levels");
-    let levels = levels_word(asked.levels);
-    let no = Text(b"replies no");
-    match (asked.replies, asked.silent) {
-        (true, None) => push_row(
-            alloc,
-            text,
-            judged,
-            &[word, traffic, on, lanes, with, levels],
-        ),
-        (false, None) => push_row(
-            alloc,
-            text,
-            judged,
-            &[word, traffic, on, lanes, with, levels, no],
-        ),
-        (true, Some(silent)) => {
-            let level = Number(u64::from(silent));
-            let last = Text(b"silent");
-            push_row(
-                alloc,
-                text,
-                judged,
-                &[word, traffic, on, lanes, with, levels, last, level],
-            )
-        }
-        (false, Some(silent)) => {
-            let level = Number(u64::from(silent));
-            let last = Text(b"silent");
-            push_row(
-                alloc,
-                text,
-                judged,
-                &[word, traffic, on, lanes, with, levels, no, last, level],
-            )
-        }
-    }
+    let mut words = vec![in alloc; Text(b"traffic")]?;
+    words.extend_from_slice(&asked_words(alloc, traffic, lanes, asked)?)?;
+    push_row(alloc, text, Text(b"judged"), &words)
 }
 
 pub(crate) fn levels_word(levels: LevelsAsked) -> RowWord<'static>

@@ -1,3 +1,4 @@
 mod WordLemmas
 mod CountLemmas
+pub mod KnownLemmas
 mod StepLemmas

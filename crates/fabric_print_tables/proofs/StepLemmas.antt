@@ -1,23 +1,17 @@
 -- What is printed so far, line by line.
-use Rattle.std.proofs.Common.{◌≡◌, ◌≢◌, ◌∙◌, sym, ap, subst, refl, ℕ, ◌+◌, ◌^◌, ◌<◌, ◌≤◌, ◌⊎◌, inl, inr, List, [], ◌∷◌, ◌++◌, append_assoc, append-nil, arith, length, get_or, slice_get, All, Option, Some, None, Result, Ok, Err, Bool, true, false, cond, ◌&&◌, ◌==◌, eqb, ltb}
+use Rattle.std.proofs.Common.{◌≡◌, ◌≢◌, ◌∙◌, sym, ap, subst, refl, ℕ, ◌+◌, ◌^◌, ◌<◌, ◌≤◌, ◌⊎◌, inl, inr, List, [], ◌∷◌, ◌++◌, append_assoc, append-nil, arith, All, Option, Some, None, Result, Ok, Err, Bool, true, false, cond, ◌&&◌, ◌==◌, eqb, ltb}
 use mathlib.Core.Path.{fun_ext}
-use Rattle.std.specs.Prelude.{codes, if◌then◌else◌, is_none, nat_eq, OnOk}
-use Rattle.std.specs.List.{join_with_byte, position_or_len}
-use Rattle.std.specs.Map.{keys_of}
+use Rattle.std.specs.Prelude.{codes, if◌then◌else◌, is_none, OnOk}
+use Rattle.std.specs.List.{join_with_byte}
 use Rattle.std.proofs.lemmas.Bool.{cases_eq, cases_lt}
 use Rattle.std.proofs.lemmas.Bool.Decides.{nat_tests}
-use Rattle.std.proofs.lemmas.List.{get_or-map, length-map}
-use Rattle.std.proofs.lemmas.List.Kept.{AllPairs-from_increasing}
-use Rattle.std.proofs.lemmas.List.Sums.{position_or_len_is}
-use Rattle.std.proofs.lemmas.Option.{same_Some, slice_get-get_or}
+use Rattle.std.proofs.lemmas.Option.{same_Some}
 use Rattle.common_lines.specs.Lines.{line_text, lines_of, lines_text}
 use Rattle.common_lines.specs.Chains.{LeadsBy}
 use Rattle.common_lines.proofs.ChainLaws.{LeadsBy-push}
 use Rattle.common_lines.proofs.SpellLemmas.{IsWord, line_bytes, lines_of-line, no_line}
 use Rattle.fabric_model.specs.declared.node.EndPort.{EndPort}
-use Rattle.fabric_model.specs.declared.node.EndPort.TheVariants as kind
-use Rattle.fabric_model.specs.declared.node.Switch.{Switch}
-use Rattle.fabric_model.specs.Fabric.{FabricOf, IsFabric, guid_in, guid_of, owner_of, switch_count, switch_with}
+use Rattle.fabric_model.specs.Fabric.{FabricOf, owner_of, switch_with}
 use Rattle.fabric_tables.specs.Cells.{CellsOf, TablesOf, port_of, tables_of, with_port}
 use Rattle.fabric_read_tables.specs.declared.line.TableLine.TheVariants.{Head, Row, End, PlainHead, PlainEnd}
 use Rattle.fabric_read_tables.specs.declared.reading.Part.{Part}
@@ -290,35 +284,7 @@ module _ (fabric : FabricOf) (tables : TablesOf) where
         unowned = count_start (IsFilledUnowned fabric tables);
       })
 
--- a switch has its GUID alone
-guid_at : (nodes : List (ℕ × Switch)) (place : ℕ) → place < length nodes → guid_in (slice_get nodes place) ≡ get_or (keys_of nodes) place 0
-guid_at nodes place low =
-    let default : ℕ × Switch = (0, record { ports = 0; lids = record { base = 0; lmc = 0 } }) in
-    ap guid_in (slice_get-get_or nodes place default low) ∙ sym (get_or-map (λ (n : ℕ × Switch). n.0) nodes place default 0 low)
-
-key_before : (guid key own : ℕ) → guid ≡ own → key < own → nat_eq guid key ≡ false
-key_before guid key own is less = grind (arith, nat_tests)
-
-key_own : (guid own : ℕ) → guid ≡ own → nat_eq guid own ≡ true
-key_own guid own is = grind (arith, nat_tests)
-
-pub switch_known : (fabric : FabricOf) (switch : ℕ) → IsFabric fabric → switch < switch_count fabric → switch_with fabric (guid_of fabric (kind.Switch switch)) ≡ Some switch
-switch_known fabric switch is low =
-    let nodes = fabric.nodes.switches in
-    let keys = keys_of nodes in
-    let guid = guid_of fabric (kind.Switch switch) in
-    let size = length-map nodes (λ (n : ℕ × Switch). n.0) in
-    let own = guid_at nodes switch low in
-    let first : position_or_len (nat_eq guid) keys ≡ switch = position_or_len_is (nat_eq guid) keys switch 0 (omega (arith, size))
-    (λ k less. key_before guid (get_or keys k 0) (get_or keys switch 0) own (AllPairs-from_increasing keys is.rising k switch 0 less (omega (arith, size))))
-    (λ _. key_own guid (get_or keys switch 0) own) in
-    let within : ltb switch (length keys) ≡ true = (let s = size in grind (arith, nat_tests)) in
-    rw (first, within) refl
-
--- the tables of cells
-pub no_switch : (cells : CellsOf) (s l : ℕ) → cells.switches ≤ s → tables_of cells s l ≡ None
-no_switch cells s l past = let t : ltb s cells.switches ≡ false = grind (arith, nat_tests) in rw t refl
-
+-- a port of cells
 byte_low : (byte port : ℕ) → Some port ≡ port_of byte → port < 256 → port < 255
 byte_low byte port is low = elim (cases_eq byte 255) [
   | inl none ↦ (let e : Some port ≡ None = is ∙ (rw none refl) in absurd (cc))

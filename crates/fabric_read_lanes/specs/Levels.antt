@@ -1,10 +1,8 @@
 -- The text of the service levels of the paths of a fabric.
 use Rattle.std.specs.Prelude.{◌≡◌, ◌<◌, ℕ, Bool, true, false, List, length, Option, Some, None, Result, Ok, Err}
-use Rattle.std.specs.Prelude.{is_none}
-use Rattle.std.specs.Prelude.{if◌then◌else◌}
 use Rattle.fabric_model.specs.declared.node.EndPort.{EndPort}
 use Rattle.fabric_model.specs.declared.node.EndPort.TheVariants as port
-use Rattle.fabric_model.specs.Fabric.{FabricOf, end_with, owner_of, switch_with}
+use Rattle.fabric_model.specs.Fabric.{FabricOf, end_with, switch_with}
 use Rattle.fabric_lane_tables.specs.PathLevels.{LevelsOf, with_level}
 use Rattle.std.proofs.Common.{ap}
 use Rattle.common_lines.specs.Chains.{IsFaultOf}
@@ -56,30 +54,28 @@ abbrev pub any_source : FabricOf → ℕ → Result EndPort LaneCause
 any_source fabric guid =
     source_or (end_with fabric guid) (or_unknown (switch_with fabric guid) UnknownEnd port.Switch)
 
--- a level of an end port and a LID, which is kept if somebody owns the LID
-abbrev pub level_told : FabricOf → Told → (lid level : ℕ) → EndPort → Step
-level_told fabric told lid level source =
-    if is_none (owner_of fabric lid) then Ok told
-    else Ok (record told { levels = with_level told.levels source lid level })
+-- a level of an end port and a LID, with or without an owner
+abbrev pub level_told : Told → (lid level : ℕ) → EndPort → Step
+level_told told lid level source = Ok (record told { levels = with_level told.levels source lid level })
 
 -- .. of the end port of a part
-abbrev pub level_at : FabricOf → Told → (lid level : ℕ) → Part → Step
-level_at fabric told lid level (Of source) = level_told fabric told lid level source
-level_at fabric told lid level part = Err OutOfPlace
+abbrev pub level_at : Told → (lid level : ℕ) → Part → Step
+level_at told lid level (Of source) = level_told told lid level source
+level_at told lid level part = Err OutOfPlace
 
 -- a path names its end port itself, and ends a part
 abbrev pub at_part : Told → Part → Told
 at_part told part = record told { part = part }
 
-abbrev pub path_told : FabricOf → Told → (lid level : ℕ) → Result EndPort LaneCause → Step
-path_told fabric told lid level source = and_then source (level_told fabric (at_part told Paths) lid level)
+abbrev pub path_told : Told → (lid level : ℕ) → Result EndPort LaneCause → Step
+path_told told lid level source = and_then source (level_told (at_part told Paths) lid level)
 
 -- what is told after what a line says
 abbrev pub told_with : FabricOf → Told → LevelLine → Step
 told_with fabric told Nothing = Ok told
 told_with fabric told (Head node) = and_then (source_of fabric node) (λ source. Ok (at_part told (Of source)))
-told_with fabric told (Level lid level) = level_at fabric told lid level told.part
-told_with fabric told (Path guid lid level) = path_told fabric told lid level (any_source fabric guid)
+told_with fabric told (Level lid level) = level_at told lid level told.part
+told_with fabric told (Path guid lid level) = path_told told lid level (any_source fabric guid)
 
 -- what is told after a line
 unfoldable pub told_after : FabricOf → Told → List ℕ → Step

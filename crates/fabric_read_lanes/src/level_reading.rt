@@ -55,7 +55,7 @@ impl TakesLines<LaneCause> for Reading {
 
     fn take(&mut self, alloc: Global, fabric: &Fabric, line: &[u8]) -> Result<(), LaneStop> {
         let said = level_line(alloc, line)?;
-        self.add(fabric, said)
+        self.add(alloc, fabric, said)
     }
 
     fn may_end(&self) -> bool {
@@ -79,7 +79,7 @@ impl Reading {
     }
 
     // Adds what a line says.
-    fn add(&mut self, fabric: &Fabric, said: LevelLine) -> Result<(), LaneStop>
+    fn add(&mut self, alloc: Global, fabric: &Fabric, said: LevelLine) -> Result<(), LaneStop>
         requires fit { IsFit fabric.now self.old }
         requires low { HasLowLevel said }
         ensures step { LedToOrWant result (told_of self.new) (told_with fabric.now (told_of self.old) said) }
@@ -88,8 +88,8 @@ impl Reading {
         match said {
             LevelLine::Nothing => Ok(()),
             LevelLine::Head(head) => self.begin(fabric, head),
-            LevelLine::Level(lid, level) => self.add_level(fabric, lid, level),
-            LevelLine::Path(guid, lid, level) => self.add_path(fabric, guid, lid, level),
+            LevelLine::Level(lid, level) => self.add_level(alloc, fabric, lid, level),
+            LevelLine::Path(guid, lid, level) => self.add_path(alloc, fabric, guid, lid, level),
         }
     }
 
@@ -110,7 +110,13 @@ impl Reading {
     }
 
     // Adds a level of the end port of the part, if there is one.
-    fn add_level(&mut self, fabric: &Fabric, lid: u16, level: u8) -> Result<(), LaneStop>
+    fn add_level(
+        &mut self,
+        alloc: Global,
+        fabric: &Fabric,
+        lid: u16,
+        level: u8,
+    ) -> Result<(), LaneStop>
         requires fit { IsFit fabric.now self.old }
         requires low { level ≤ 15 }
         ensures step { LedToOrWant result (told_of self.new)
@@ -118,13 +124,20 @@ impl Reading {
         ensures fit { OnOk result (IsFit fabric.now self.new) }
     {
         match self.part {
-            Part::Of(source) => self.put(fabric, source, lid, level),
+            Part::Of(source) => self.put(alloc, fabric, source, lid, level),
             Part::Start | Part::Paths => Err(Stop::Fault(LaneCause::OutOfPlace)),
         }
     }
 
     // Adds a level of a path.
-    fn add_path(&mut self, fabric: &Fabric, guid: u64, lid: u16, level: u8) -> Result<(), LaneStop>
+    fn add_path(
+        &mut self,
+        alloc: Global,
+        fabric: &Fabric,
+        guid: u64,
+        lid: u16,
+        level: u8,
+    ) -> Result<(), LaneStop>
         requires fit { IsFit fabric.now self.old }
         requires low { level ≤ 15 }
         ensures step { LedToOrWant result (told_of self.new)
@@ -134,28 +147,30 @@ impl Reading {
         match any_source(fabric, guid) {
             Ok(source) => {
                 self.part = Part::Paths;
-                self.put(fabric, source, lid, level)
+                self.put(alloc, fabric, source, lid, level)
             }
             Err(cause) => Err(Stop::Fault(cause)),
         }
     }
 
-    // Adds a level of an end port, to a LID that has an owner.
-    fn put(&mut self, fabric: &Fabric, source: EndPort, lid: u16, level: u8) -> Result<(), LaneStop>
+    // Adds a level of an end port to a LID, with or without an owner.
+    fn put(
+        &mut self,
+        alloc: Global,
+        fabric: &Fabric,
+        source: EndPort,
+        lid: u16,
+        level: u8,
+    ) -> Result<(), LaneStop>
         requires fit { IsFit fabric.now self.old }
         requires source { IsEndOf fabric.now source }
         requires low { level ≤ 15 }
-        ensures step { LedToOrWant result (told_of self.new)
-            (level_told fabric.now (told_of self.old) lid level source) }
+        ensures step { LedToOrWant result (told_of self.new) (level_told (told_of self.old) lid level source) }
         ensures fit { OnOk result (IsFit fabric.now self.new) }
     {
         let lid = usize::from(lid);
-        if fabric.owner(lid).is_none() {
-            return Ok(());
-        }
-        if let Err(_) = self.rows.add(source, lid, usize::from(level)) {
-            return Err(Stop::OutOfMemory);
-        }
+        self.rows.make_room(alloc, lid)?;
+        self.rows.add(source, lid, usize::from(level))?;
         Ok(())
     }
 }

@@ -8,7 +8,6 @@
 #![tactic(auto)]
 
 mod changes;
-mod figures;
 mod mending;
 pub mod repair;
 mod roots;

@@ -6,7 +6,6 @@ ghost use Rattle.fabric_tables.specs.Cells.{tables_of};
 ghost use Rattle.fabric_repair.specs.Repaired.{AreRepairedOf};
 
 use crate::changes::Changes;
-use crate::figures::measure;
 use crate::mending::{Scope, mend};
 use crate::roots::{falling, find_root, tree_from};
 use crate::task::{Parts, Task};
@@ -14,7 +13,6 @@ use crate::weights::{reweigh, weigh};
 use crate::wishes::wish;
 use crate::writing::{copy_tables, write_tables};
 use common_values::memory::OutOfMemory;
-use fabric_engine::measures::Measures;
 use fabric_engine_channels::channels::{Channel, Channels, Turn};
 use fabric_engine_channels::order::Order;
 use fabric_engine_channels::table::Table;
@@ -37,17 +35,6 @@ const WORTH: usize = 8;
 
 // How many steps are taken to find better rows, before what is there is taken.
 const STEPS: u64 = 1 << 26;
-
-/// Tables that were repaired.
-#[derive(Drop)]
-pub struct Repaired {
-    /// The tables.
-    pub cells: Cells,
-    /// How good the given tables were.
-    pub before: Measures,
-    /// How good these are.
-    pub after: Measures,
-}
 
 // By which order a search begins.
 #[derive(Clone, Copy)]
@@ -360,42 +347,20 @@ fn find_changes(alloc: Global, task: Task<'_>) -> Result<Option<Changes>, OutOfM
     Ok(best.filter(|changes| changes.lost() == 0))
 }
 
-// The given tables with the rows that are to be set.
-fn repaired_by(
-    alloc: Global,
-    fabric: &Fabric,
-    cells: &Cells,
-    task: Task<'_>,
-    changes: &Changes,
-) -> Result<Repaired, OutOfMemory>
-    requires switches { cells.now.switches ≡ switch_count fabric.now }
-    requires lids { length fabric.now.owners ≤ 64 * cells.now.blocks }
-    requires low { 64 * cells.now.blocks ≤ 0xC000 }
-    ensures { IfOk result (λ made. AreRepairedOf fabric.now cells.now made.cells) }
-{
-    let before = measure(alloc, task, None)?;
-    let after = measure(alloc, task, Some(changes))?;
-    Ok(Repaired {
-        before,
-        after,
-        cells: write_tables(alloc, fabric, cells, changes.rows())?,
-    })
-}
-
 // The given tables repaired, if rows are found that are to be set.
 fn repair_task(
     alloc: Global,
     fabric: &Fabric,
     cells: &Cells,
     task: Task<'_>,
-) -> Result<Option<Repaired>, OutOfMemory>
+) -> Result<Option<Cells>, OutOfMemory>
     requires switches { cells.now.switches ≡ switch_count fabric.now }
     requires lids { length fabric.now.owners ≤ 64 * cells.now.blocks }
     requires low { 64 * cells.now.blocks ≤ 0xC000 }
-    ensures { IfOk result (λ found. IfSome found (λ made. AreRepairedOf fabric.now cells.now made.cells)) }
+    ensures { IfOk result (λ found. IfSome found (AreRepairedOf fabric.now cells.now)) }
 {
     match find_changes(alloc, task)? {
-        Some(changes) => Ok(Some(repaired_by(alloc, fabric, cells, task, &changes)?)),
+        Some(changes) => Ok(Some(write_tables(alloc, fabric, cells, changes.rows())?)),
         None => Ok(None),
     }
 }
@@ -408,32 +373,21 @@ pub fn repair(
     fabric: &Fabric,
     cells: &Cells,
     traffic: Traffic,
-) -> Result<Option<Repaired>, OutOfMemory>
+) -> Result<Option<Cells>, OutOfMemory>
     requires switches { cells.now.switches ≡ switch_count fabric.now }
     requires lids { length fabric.now.owners ≤ 64 * cells.now.blocks }
     requires low { 64 * cells.now.blocks ≤ 0xC000 }
-    ensures { IfOk result (λ found. IfSome found (λ made. AreRepairedOf fabric.now cells.now made.cells)) }
+    ensures { IfOk result (λ found. IfSome found (AreRepairedOf fabric.now cells.now)) }
 {
     let parts = Parts::of(alloc, fabric)?;
     repair_task(alloc, fabric, cells, parts.task(cells, traffic))
 }
 
-/// Given tables in which no row is set. The error is out of memory alone.
-pub fn keep(
-    alloc: Global,
-    fabric: &Fabric,
-    cells: &Cells,
-    traffic: Traffic,
-) -> Result<Repaired, OutOfMemory>
+/// A copy of given tables, in which no row is set. The error is out of memory alone.
+pub fn keep(alloc: Global, fabric: &Fabric, cells: &Cells) -> Result<Cells, OutOfMemory>
     requires { cells.now.switches ≡ switch_count fabric.now }
-    ensures shape { IfOk result (λ made. AreRepairedOf fabric.now cells.now made.cells) }
-    ensures same { IfOk result (λ made. tables_of made.cells ≡ tables_of cells.now) }
+    ensures shape { IfOk result (AreRepairedOf fabric.now cells.now) }
+    ensures same { IfOk result (λ made. tables_of made ≡ tables_of cells.now) }
 {
-    let parts = Parts::of(alloc, fabric)?;
-    let measures = measure(alloc, parts.task(cells, traffic), None)?;
-    Ok(Repaired {
-        cells: copy_tables(alloc, fabric, cells)?,
-        before: measures,
-        after: measures,
-    })
+    copy_tables(alloc, fabric, cells)
 }

@@ -1,5 +1,4 @@
 mod ReportLemmas
-mod KnownLemmas
 mod SetLemmas
 mod SameLemmas
 mod LidLemmas

@@ -16,7 +16,7 @@ use Rattle.fabric_repair.specs.Repaired.{AreRepairedOf, HasKept}
 use Rattle.fabric_repair_commands.specs.declared.rows.SetRow.{SetRow}
 use Rattle.fabric_repair_commands.specs.Repairs.{differs, row_at, row_of, rows_for, rows_set}
 use Rattle.fabric_repair_commands.specs.SetRows.{with_port_of, with_row, with_rows}
-use Rattle.fabric_repair_commands.proofs.KnownLemmas.{no_switch, switch_known}
+use Rattle.fabric_print_tables.proofs.KnownLemmas.{no_switch, switch_known}
 
 -- rows one after another: a cell has a port if all rows of the cell say so, and there is one, or it had that port before
 module _ (fabric : FabricOf) (switch lid : ℕ) (port : Option ℕ) where

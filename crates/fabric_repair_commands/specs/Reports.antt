@@ -5,8 +5,8 @@ use Rattle.std.specs.Fmt.{decimal}
 use Rattle.common_lines.specs.Lines.{lines_text}
 use Rattle.fabric_print.specs.Answers.{Row}
 use Rattle.fabric_model.specs.Fabric.{FabricOf, guid_of}
-use Rattle.fabric_engine.specs.declared.measures.Measures.{Measures}
 use Rattle.fabric_route_command.specs.declared.apart.Pair.{Pair}
+use Rattle.fabric_route_command.specs.declared.measured.Measured.{Measured}
 use Rattle.fabric_print_tables.specs.Texts.{guid_word}
 use Rattle.fabric_repair_commands.specs.declared.report.Report.{Report}
 use Rattle.fabric_repair_commands.specs.declared.rows.SetRow.{SetRow}
@@ -18,7 +18,7 @@ counts_row report =
     ∷ codes "lids" ∷ decimal report.lids ∷ []
 
 -- how good tables are
-abbrev pub measures_row : (when : List ℕ) → Measures → Row
+abbrev pub measures_row : (when : List ℕ) → Measured → Row
 measures_row when of =
     when ∷ codes "routes" ∷ decimal of.routes ∷ codes "hops" ∷ decimal of.hops
     ∷ codes "longest" ∷ decimal of.longest ∷ codes "greatest" ∷ decimal of.greatest ∷ []

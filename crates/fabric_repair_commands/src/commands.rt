@@ -19,9 +19,9 @@ use fabric_model::fabric::Fabric;
 use fabric_model::traffic::Traffic;
 use fabric_print_tables::printer::print;
 use fabric_read_tables::reader::Tables;
-use fabric_repair::repair::Repaired;
 use fabric_route_command::apart::find_apart;
-use fabric_route_command::measured::measured;
+use fabric_route_command::measured::measure;
+use fabric_tables::cells::Cells;
 use std::alloc::Global;
 
 /// The command `repair`: the rows of given tables that are to be set so that they pass for a traffic.
@@ -56,20 +56,20 @@ fn given_rows(
     fabric: &Fabric,
     tables: &Tables,
     traffic: Traffic,
-    made: &Repaired,
+    made: &Cells,
 ) -> Result<Given, OutOfMemory>
     requires cells { HasCells fabric.now tables.now }
-    requires made { WereMadeOf traffic fabric.now tables.now.cells made.now.cells }
+    requires made { WereMadeOf traffic fabric.now tables.now.cells made.now }
     ensures given { IfOk result (λ given. AreRowsTold traffic fabric.now tables.now given.status given.text.items) }
     ensures ends { IfOk result (λ given. IsEnding given.status) }
 {
-    let rows = rows_set(alloc, fabric, &tables.cells, &made.cells)?;
+    let rows = rows_set(alloc, fabric, &tables.cells, made)?;
     let report = Report {
         traffic: Word::of(alloc, word_of(traffic).as_bytes())?,
         cells: count_cells(fabric),
         lids: count_lids(alloc, &rows)?,
-        before: measured(alloc, fabric, &tables.cells, made.before)?,
-        after: measured(alloc, fabric, &made.cells, made.after)?,
+        before: measure(alloc, fabric, &tables.cells)?,
+        after: measure(alloc, fabric, made)?,
         rows,
     };
     Ok(Given {
@@ -118,7 +118,7 @@ impl Command for RepairedTables {
         match find_repaired(alloc, &topology.fabric, &tables.cells, self.traffic)? {
             Ok(made) => Ok(Given {
                 status: Status::Ok,
-                text: print(alloc, &topology.fabric, &made.cells)?,
+                text: print(alloc, &topology.fabric, &made)?,
             }),
             Err(status) => Ok(Given {
                 status,

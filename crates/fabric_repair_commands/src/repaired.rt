@@ -15,7 +15,7 @@ use fabric_call::status::Status;
 use fabric_judge_commands::answer::status_of;
 use fabric_model::fabric::Fabric;
 use fabric_model::traffic::Traffic;
-use fabric_repair::repair::{Repaired, keep, repair};
+use fabric_repair::repair::{keep, repair};
 use fabric_tables::cells::Cells;
 use fabric_verdict::judge::judge;
 use std::alloc::Global;
@@ -28,11 +28,11 @@ pub fn find_repaired(
     fabric: &Fabric,
     cells: &Cells,
     traffic: Traffic,
-) -> Result<Result<Repaired, Status>, OutOfMemory>
+) -> Result<Result<Cells, Status>, OutOfMemory>
     requires switches { cells.now.switches ≡ switch_count fabric.now }
     requires lids { length fabric.now.owners ≤ 64 * cells.now.blocks }
     requires low { 64 * cells.now.blocks ≤ 0xC000 }
-    ensures made { IfOk result (λ found. IfOk found (λ made. WereMadeOf traffic fabric.now cells.now made.cells)) }
+    ensures made { IfOk result (λ found. IfOk found (WereMadeOf traffic fabric.now cells.now)) }
     ensures ends { IfOk result (λ found. IfErr found (IsEndOf fabric.now (tables_of cells.now) traffic)) }
     ensures fails { IfOk result (λ found. IfErr found (λ status. status ≢ ended.Ok)) }
 {
@@ -41,8 +41,8 @@ pub fn find_repaired(
     }
     match end_of(alloc, fabric, cells, traffic)? {
         Status::Ok => {
-            let made = keep(alloc, fabric, cells, traffic)?;
-            see_set(fabric, cells, &made.cells);
+            let made = keep(alloc, fabric, cells)?;
+            see_set(fabric, cells, &made);
             Ok(Ok(made))
         }
         status => Ok(Err(status)),
@@ -55,18 +55,18 @@ fn find_better(
     fabric: &Fabric,
     cells: &Cells,
     traffic: Traffic,
-) -> Result<Option<Repaired>, OutOfMemory>
+) -> Result<Option<Cells>, OutOfMemory>
     requires switches { cells.now.switches ≡ switch_count fabric.now }
     requires lids { length fabric.now.owners ≤ 64 * cells.now.blocks }
     requires low { 64 * cells.now.blocks ≤ 0xC000 }
-    ensures { IfOk result (λ found. IfSome found (λ made. WereMadeOf traffic fabric.now cells.now made.cells)) }
+    ensures { IfOk result (λ found. IfSome found (WereMadeOf traffic fabric.now cells.now)) }
 {
     let Some(made) = repair(alloc, fabric, cells, traffic)? else {
         return Ok(None);
     };
-    match end_of(alloc, fabric, &made.cells, traffic)? {
+    match end_of(alloc, fabric, &made, traffic)? {
         Status::Ok => {
-            see_set(fabric, cells, &made.cells);
+            see_set(fabric, cells, &made);
             Ok(Some(made))
         }
         _ => Ok(None),

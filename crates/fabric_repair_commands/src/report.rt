@@ -8,10 +8,10 @@ use crate::rows::SetRow;
 use common_lines::spelling::{decimal, push_line};
 use common_values::memory::OutOfMemory;
 use common_values::text::Word;
-use fabric_engine::measures::Measures;
 use fabric_model::fabric::Fabric;
 use fabric_print_tables::printer::guid_word;
 use fabric_route_command::apart::Pair;
+use fabric_route_command::measured::Measured;
 use std::alloc::Global;
 
 /// What `repair` tells of tables that were repaired.
@@ -24,9 +24,9 @@ pub struct Report {
     /// For how many LIDs rows are set.
     pub lids: u64,
     /// How good the given tables are.
-    pub before: Measures,
+    pub before: Measured,
     /// How good they are once the rows are set.
-    pub after: Measures,
+    pub after: Measured,
     /// The rows.
     pub rows: Vec<SetRow>,
 }
@@ -95,7 +95,7 @@ fn push_measures(
     alloc: Global,
     text: &mut Vec<u8>,
     when: &[u8],
-    of: Measures,
+    of: Measured,
 ) -> Result<(), OutOfMemory>
     ensures { OnOk result (text.new.items ≡ text.old.items ++ line_text (measures_row when.now of)) }
 {

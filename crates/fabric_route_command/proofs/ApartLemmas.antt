@@ -8,7 +8,7 @@ use Rattle.fabric_model.specs.declared.node.EndPort.TheVariants.{Host, Switch}
 use Rattle.fabric_model.specs.Fabric.{FabricOf, IsFabric, owner_of, start_of, switch_count}
 use Rattle.fabric_model.specs.declared.traffic.Traffic.{Traffic}
 use Rattle.fabric_model.specs.declared.traffic.Traffic.TheVariants.{Hosts, Lids, Managed, All, Rows}
-use Rattle.fabric_routes.specs.Routes.{IsSource, IsTarget, MayWrite, SendsToOwner}
+use Rattle.fabric_routes.specs.Routes.{IsSource, IsTarget, MayWrite}
 use Rattle.fabric_routes.proofs.StartLemmas.{source_low, start_low}
 use Rattle.fabric_route_command.specs.Joined.{AllJoined, AreEndsJoined, IsApart}
 use Rattle.fabric_route_command.specs.Parts.{AllJoinedBy, AreLabels, IsApartBy, IsOtherSource, IsOtherTarget, label_of}

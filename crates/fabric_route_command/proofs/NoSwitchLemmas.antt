@@ -1,6 +1,6 @@
 -- A fabric without switches.
-use Rattle.std.proofs.Common.{◌≡◌, ℕ, List, [], ◌∷◌, inl, inr, arith}
-use Rattle.common_graph.specs.Cycles.{HasNoCycle, IsCycle}
+use Rattle.std.proofs.Common.{◌≡◌, ℕ, [], ◌∷◌, inl, inr, arith}
+use Rattle.common_graph.specs.Cycles.{HasNoCycle}
 use Rattle.fabric_tables.specs.Cells.{TablesOf}
 use Rattle.fabric_model.specs.declared.node.EndPort.{EndPort}
 use Rattle.fabric_model.specs.Fabric.{FabricOf, IsFabric, switch_count}

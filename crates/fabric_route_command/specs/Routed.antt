@@ -10,7 +10,6 @@ use Rattle.fabric_model.specs.Fabric.{FabricOf, guid_of, switch_count}
 use Rattle.fabric_tables.specs.Cells.{TablesOf}
 use Rattle.fabric_model.specs.declared.traffic.Traffic.{Traffic}
 use Rattle.fabric_verdict.specs.Verdict.{Passes}
-use Rattle.fabric_engine.specs.declared.measures.Measures.{Measures}
 use Rattle.fabric_print_tables.specs.Texts.{IsTextOf, guid_word}
 use Rattle.fabric_call.specs.declared.status.Status.{Status}
 use Rattle.fabric_call.specs.declared.status.Status.TheVariants.{WriteFault}
@@ -19,6 +18,7 @@ use Rattle.fabric_call.specs.Status.{IsToldOf}
 use Rattle.fabric_route_command.specs.declared.end.End.{End}
 use Rattle.fabric_route_command.specs.declared.end.End.TheVariants.{Routed, NotJoined, NoTables}
 use Rattle.fabric_route_command.specs.Joined.{AllJoined, IsApart}
+use Rattle.fabric_route_command.specs.declared.measured.Measured.{Measured}
 use Rattle.fabric_route_command.specs.Measured.{AreMeasures}
 
 -- the bytes are the text of tables that pass: there is no credit loop, and each route of the traffic arrives
@@ -30,7 +30,7 @@ pub record AreRouted (traffic : Traffic) (fabric : FabricOf) (written : List ℕ
 
 -- the words of the line that says how good tables are, that an end port and a LID are not joined, and that no tables
 -- were found
-abbrev pub measure_words : Measures → List (List ℕ)
+abbrev pub measure_words : Measured → List (List ℕ)
 measure_words of =
     codes "fabric:" ∷ codes "routes" ∷ decimal of.routes ∷ codes "hops" ∷ decimal of.hops
     ∷ codes "longest" ∷ decimal of.longest ∷ codes "greatest" ∷ decimal of.greatest ∷ []
@@ -43,12 +43,14 @@ apart_words guid lid =
 abbrev pub none_words : List (List ℕ)
 none_words = codes "fabric:" ∷ codes "no" ∷ codes "tables" ∷ codes "found" ∷ []
 
--- What is given for a fabric, the text for out and the line for err: tables that pass, with their measures; an end port and a LID to which it sends that no links join; or nothing, if all are joined, and there are
--- switches.
+-- What is given for a fabric, the text for out and the line for err.
+-- Tables that pass, with their measures.
+-- An end port and a LID to which it sends, if no links join these.
+-- Or nothing, if all are joined, and there are switches.
 abbrev pub IsGiven : Traffic → FabricOf → End → (written line : List ℕ) → Type 0
 IsGiven traffic fabric Routed written line =
     (routed : AreRouted traffic fabric written)
-    × ((of : Measures) × AreMeasures fabric routed.tables of × (line ≡ line_text (measure_words of)))
+    × ((of : Measured) × AreMeasures fabric routed.tables of × (line ≡ line_text (measure_words of)))
 IsGiven traffic fabric NotJoined written line =
     (written ≡ [])
     × ((lid : ℕ) × (source : EndPort) × IsApart fabric traffic lid source

@@ -4,9 +4,9 @@ ghost use Rattle.std.specs.Prelude.{◌≡◌, IfOk, map};
 ghost use Rattle.common_lines.specs.Lines.{line_text};
 ghost use Rattle.fabric_route_command.specs.Routed.{apart_words, code_of, measure_words, none_words};
 
+use crate::measured::Measured;
 use common_lines::spelling::{decimal, push_line};
 use common_values::memory::OutOfMemory;
-use fabric_engine::measures::Measures;
 use fabric_print_tables::printer::guid_word;
 use std::alloc::Global;
 
@@ -35,7 +35,7 @@ impl End {
 }
 
 /// The line that says how good tables are.
-pub fn measure_line(alloc: Global, of: Measures) -> Result<Vec<u8>, OutOfMemory>
+pub fn measure_line(alloc: Global, of: Measured) -> Result<Vec<u8>, OutOfMemory>
     ensures { IfOk result (λ line. line.items ≡ line_text (measure_words of)) }
 {
     let routes = decimal(alloc, of.routes)?;

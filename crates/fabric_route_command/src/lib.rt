@@ -11,6 +11,7 @@
 pub mod apart;
 pub mod end;
 pub mod law;
+pub mod loads;
 pub mod measured;
 mod parts;
 pub mod route;

@@ -16,13 +16,12 @@ ghost use Rattle.fabric_route_command.specs.Routed.{IsGiven, IsGivenFor, IsRoute
 
 use crate::apart::{Pair, find_apart};
 use crate::end::{End, apart_line, measure_line, none_line};
-use crate::measured::measured;
+use crate::measured::measure;
 use common_call::end::tell;
 use common_values::memory::OutOfMemory;
 use fabric_call::input::read_topology;
 use fabric_call::status::{Status, finish};
 use fabric_engine::choice::{Made, lay_tables};
-use fabric_engine::measures::Measures;
 use fabric_model::fabric::Fabric;
 use fabric_model::traffic::Traffic;
 use fabric_print_tables::printer::print;
@@ -91,7 +90,7 @@ pub fn given_for(alloc: Global, fabric: &Fabric, traffic: Traffic) -> Result<Giv
     match find_apart(alloc, fabric, traffic)? {
         Some(pair) => given_apart(alloc, fabric, traffic, pair),
         None => match make_tables(alloc, fabric, traffic)? {
-            Some(made) => given_made(alloc, fabric, traffic, &made),
+            Some(cells) => given_made(alloc, fabric, traffic, &cells),
             None => given_none(alloc, fabric, traffic),
         },
     }
@@ -102,18 +101,17 @@ fn make_tables(
     alloc: Global,
     fabric: &Fabric,
     traffic: Traffic,
-) -> Result<Option<Made>, OutOfMemory>
-    ensures made { IfOk result (λ found. MatchOption found (switch_count fabric.now ≢ 0)
-        (λ made. AreTablesFor fabric.now made.cells)) }
+) -> Result<Option<Cells>, OutOfMemory>
+    ensures made { IfOk result (λ found. MatchOption found (switch_count fabric.now ≢ 0) (AreTablesFor fabric.now)) }
     ensures fabric { IfOk result (λ _. IsFabric fabric.now) }
 {
     if fabric.switches() > 0 {
-        return lay_tables(alloc, fabric, traffic);
+        return match lay_tables(alloc, fabric, traffic)? {
+            Some(Made { cells, measures: _ }) => Ok(Some(cells)),
+            None => Ok(None),
+        };
     }
-    Ok(Some(Made {
-        cells: Cells::new(alloc, 0, fabric.lids())?,
-        measures: Measures::NONE,
-    }))
+    Ok(Some(Cells::new(alloc, 0, fabric.lids())?))
 }
 
 // What is given if links do not join an end port to a LID.
@@ -151,21 +149,21 @@ fn given_made(
     alloc: Global,
     fabric: &Fabric,
     traffic: Traffic,
-    made: &Made,
+    cells: &Cells,
 ) -> Result<Given, OutOfMemory>
     requires joined { AllJoined fabric.now traffic }
-    requires tables { AreTablesFor fabric.now made.now.cells }
+    requires tables { AreTablesFor fabric.now cells.now }
     requires fabric { IsFabric fabric.now }
     ensures { IfOk result (λ given. IsGiven traffic fabric.now given.end given.text.items given.line.items) }
 {
-    let judged = judge(alloc, fabric, &made.cells, traffic)?;
+    let judged = judge(alloc, fabric, cells, traffic)?;
     if !passes(&judged) {
         return given_none(alloc, fabric, traffic);
     }
     Ok(Given {
         end: End::Routed,
-        text: print(alloc, fabric, &made.cells)?,
-        line: measure_line(alloc, measured(alloc, fabric, &made.cells, made.measures)?)?,
+        text: print(alloc, fabric, cells)?,
+        line: measure_line(alloc, measure(alloc, fabric, cells)?)?,
     })
 }
 

@@ -1,7 +1,7 @@
 use Rattle.std.proofs.Common.{◌∙◌, ap, refl, subst, sym, ℕ, List}
 use Rattle.fabric_tables.specs.Cells.{tables_of}
 use Rattle.fabric_lane_tables.specs.Lanes.{lanes_of}
-use Rattle.fabric_lane_tables.specs.Levels.{levels_of}
+use Rattle.fabric_lane_tables.specs.InUse.{levels_in_use}
 use Rattle.fabric_print_lanes.specs.declared.answer.LaneLost.{LaneLost}
 use Rattle.fabric_print_lanes.specs.declared.answer.LaneStep.{LaneStep}
 use Rattle.fabric_judge_commands.specs.Names.{names_for}
@@ -23,12 +23,12 @@ returns-clause-answer c =
       counts = c.in_ok-counts.counts;
       counted = c.in_ok-counts.ensures;
       routes = c.routes_of.ensures;
-      silent = refl;
+      silent = c.in_ok-silent.ensures;
       mute = c.mute_for-mute.ensures;
       channels = subst (λ (n : ℕ). IsLaneChannelCount input.topology.fabric n c.args.judged.now.channels) (sym c.count.ensures.count) c.requires.judged.channels;
       dependencies = c.requires.judged.dependencies;
       loop = c.cycle_of.result.now;
-      is_loop = c.cycle_of.ensures input.topology.fabric (tables_of input.tables.cells) (lanes_of input.lanes) c.args.traffic (levels_of input.levels) input.lanes.count c.requires.judged;
+      is_loop = c.cycle_of.ensures input.topology.fabric (tables_of input.tables.cells) (lanes_of input.lanes) c.args.traffic (levels_in_use input.levels) input.lanes.count c.requires.judged;
       cycle = c.in_ok-cycle.ensures;
       losses = c.losses_of.ensures;
       lost = c.in_ok-lost.ensures;

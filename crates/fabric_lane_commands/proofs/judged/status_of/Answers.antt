@@ -4,4 +4,4 @@ use Rattle.fabric_lane_commands.proofs.LaneEndLemmas.{cycle_ends}
 use Rattle.fabric_lane_commands.proofs.judged.status_of.Goals as goal
 
 pub returns-in-Cycle : goal.returns-in-Cycle
-returns-in-Cycle c fabric tables lanes traffic levels count is mute = cycle_ends fabric tables lanes traffic levels count c.in-Cycle.channels.items (subst (IsLaneVerdict fabric tables lanes traffic levels count) c.in-Cycle.is is.verdict)
+returns-in-Cycle c fabric tables lanes traffic levels given count is mute = cycle_ends fabric tables lanes traffic levels given count c.in-Cycle.channels.items (subst (IsLaneVerdict fabric tables lanes traffic levels count) c.in-Cycle.is is.verdict)

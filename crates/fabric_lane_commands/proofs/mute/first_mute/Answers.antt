@@ -1,4 +1,4 @@
-use Rattle.std.proofs.Common.{◌≡◌, ◌≤◌, ◌*◌, ap, subst, arith, ℕ, length, inl, inr}
+use Rattle.std.proofs.Common.{◌≤◌, ◌*◌, ap, subst, arith, ℕ, length, inl, inr}
 use Rattle.std.proofs.lemmas.Bool.{cases_eq}
 use Rattle.fabric_model.specs.Fabric.{switch_count}
 use Rattle.fabric_tables.specs.Cells.{tables_of}

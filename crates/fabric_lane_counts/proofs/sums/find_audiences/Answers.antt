@@ -1,4 +1,4 @@
-use Rattle.std.proofs.Common.{◌≡◌, ◌*◌, ap, subst, ℕ, List, length, arith}
+use Rattle.std.proofs.Common.{◌*◌, ap, subst, ℕ, List, length, arith}
 use Rattle.std.proofs.lemmas.List.{length-replicate}
 use Rattle.fabric_lane_counts.specs.Sums.{AreAudiencesBelow}
 use Rattle.fabric_lane_counts.proofs.SumLemmas.{audiences_more, audiences_none}

@@ -1,5 +1,7 @@
+use Rattle.std.proofs.Common.{◌*◌}
 use Rattle.fabric_model.specs.declared.node.EndPort.TheVariants.{Host}
-use Rattle.fabric_lane_tables.specs.InUse.{AddsLevels, HasSameRoom, IsKnownBelow}
+use Rattle.fabric_lane_tables.specs.InUse.{AddsLevels, HasSameRoom, IsUsedBelow}
+use Rattle.fabric_lane_tables.specs.Levels.{levels_of}
 use Rattle.fabric_lane_tables.specs.PathLevels.{told_levels}
 use Rattle.fabric_lane_tables.proofs.in_use.add_ends.Given as goal
 
@@ -7,5 +9,5 @@ use Rattle.fabric_lane_tables.proofs.in_use.add_ends.Given as goal
 abbrev pub invariant-ends : goal.invariant-ends
 invariant-ends l = record {
   room : HasSameRoom l.fn.rows l.rows;
-  added : AddsLevels (told_levels l.fn.rows) (told_levels l.rows) (IsKnownBelow l.fabric (told_levels l.told) Host l.end);
+  added : AddsLevels (told_levels l.fn.rows) (told_levels l.rows) (IsUsedBelow l.fabric (levels_of l.given) Host l.end (64 * l.fn.rows.blocks));
 }

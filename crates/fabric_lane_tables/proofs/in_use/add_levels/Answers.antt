@@ -1,9 +1,14 @@
-use Rattle.std.proofs.Common.{◌≡◌, ◌∙◌, sym, arith, ◌<◌}
+use Rattle.std.proofs.Common.{◌∙◌, ◌≤◌, sym, arith, ◌<◌}
 use Rattle.std.proofs.lemmas.Nat.Bits.{shr_and_one}
 use Rattle.fabric_lane_tables.specs.PathLevels.{told_levels}
-use Rattle.fabric_lane_tables.proofs.InUseLemmas.{low_kept, low_more}
+use Rattle.fabric_lane_tables.proofs.InUseLemmas.{low_all, low_kept, low_more}
 use Rattle.fabric_lane_tables.proofs.in_use.add_levels.Goals as goal
 use Rattle.fabric_lane_tables.proofs.in_use.add_levels.Goals.{then-levels-level-eq1+in_ok-add, else-levels-level-eq1}
+
+pub returns-then-levels-level-eq0-clause-added : goal.returns-then-levels-level-eq0-clause-added
+returns-then-levels-level-eq0-clause-added c =
+    let fits : c.levels.level ≤ 16 = omega arith in
+    low_all (told_levels c.args.rows.now) (told_levels c.levels.rows) c.args.source c.args.lid c.args.levels c.levels.level fits c.if-levels-level-eq0.true c.levels.invariant.added
 
 pub levels-preserved : goal.levels-preserved
 levels-preserved c = elim c.if-levels-level-eq1.branch [

@@ -1,4 +1,4 @@
-use Rattle.std.proofs.Common.{◌≡◌, ◌<◌, ◌≤◌, ◌+◌, ◌⊎◌, ℕ}
+use Rattle.std.proofs.Common.{◌≡◌, ◌<◌, ◌+◌, ◌⊎◌, ℕ}
 use Rattle.fabric_lane_tables.specs.Lanes.{lane_in}
 use Rattle.fabric_lane_tables.proofs.lanes.lanes_in.Given as goal
 

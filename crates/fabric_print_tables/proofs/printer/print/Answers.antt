@@ -2,7 +2,8 @@ use Rattle.std.proofs.Common.{List, Ok, Err, Result, arith, sym, subst, ℕ}
 use Rattle.std.specs.Prelude.{IfOk}
 use Rattle.fabric_tables.specs.Cells.{tables_of}
 use Rattle.fabric_print_tables.specs.Printed.{HasPrinted, part_at}
-use Rattle.fabric_print_tables.proofs.StepLemmas.{all_printed, none_printed, no_switch, part_after, plain_printed}
+use Rattle.fabric_print_tables.proofs.KnownLemmas.{no_switch}
+use Rattle.fabric_print_tables.proofs.StepLemmas.{all_printed, none_printed, part_after, plain_printed}
 use Rattle.fabric_print_tables.proofs.printer.print.Goals as goal
 
 if_ok : {Done Error : Type 0} {Is As : Done → Type 0} → ((done : Done) → Is done → As done) → (r : Result Done Error) → IfOk r Is → IfOk r As

@@ -1,7 +1,8 @@
 use Rattle.std.proofs.Common.{◌∙◌, ap, arith, ◌*◌}
 use Rattle.fabric_model.specs.Fabric.{switch_with}
 use Rattle.fabric_tables.specs.Cells.{tables_of}
-use Rattle.fabric_print_tables.proofs.StepLemmas.{end_printed, head_printed, on_ok, switch_known}
+use Rattle.fabric_print_tables.proofs.KnownLemmas.{switch_known}
+use Rattle.fabric_print_tables.proofs.StepLemmas.{end_printed, head_printed, on_ok}
 use Rattle.fabric_print_tables.proofs.printer.push_table.Goals as goal
 
 pub returns : goal.returns

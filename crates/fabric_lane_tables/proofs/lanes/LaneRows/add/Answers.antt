@@ -1,4 +1,4 @@
-use Rattle.std.proofs.Common.{◌≡◌, ◌<◌, ◌≤◌, ◌+◌, ◌*◌, ℕ, List, None, max, sym, subst, arith, set, length}
+use Rattle.std.proofs.Common.{◌≡◌, ◌<◌, ◌≤◌, ℕ, List, None, max, sym, subst, arith, set, length}
 use Rattle.fabric_lane_tables.specs.Lanes.{AreLaneRows, LaneRowsOf, IsRowPut, index_of, told_row}
 use Rattle.fabric_lane_tables.proofs.RowLemmas.{index_low, put_fits, row_put}
 use Rattle.fabric_lane_tables.proofs.lanes.LaneRows.add.Goals as goal

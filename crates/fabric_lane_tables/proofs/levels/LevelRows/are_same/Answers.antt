@@ -1,4 +1,4 @@
-use Rattle.std.proofs.Common.{◌≡◌, ◌∙◌, ◌<◌, sym, ap, arith, eqb-true}
+use Rattle.std.proofs.Common.{◌∙◌, sym, ap, eqb-true}
 use Rattle.fabric_lane_tables.specs.PathLevels.{LevelRowsOf}
 use Rattle.fabric_lane_tables.proofs.SameLemmas.{same_block}
 use Rattle.fabric_lane_tables.proofs.levels.LevelRows.are_same.Goals as goal

@@ -9,7 +9,7 @@ pub returns-in_ok-print-in-Ok-clause-given : goal.returns-in_ok-print-in-Ok-clau
 returns-in_ok-print-in-Ok-clause-given c =
     let fabric = c.args.topology.now.fabric in
     let given = c.args.tables.now.cells in
-    let made = c.in-Ok.made.cells in
+    let made = c.in-Ok.made in
     let were : WereMadeOf c.args.self.now.traffic fabric given made = search rules in
     inl (record {
       rows = rows_set fabric (tables_of given) (tables_of made);
