@@ -20,5 +20,5 @@ returns-in_ok-print-in-Ok-clause-given c =
 
 pub print-requires-clause-reserved : goal.print-requires-clause-reserved
 print-requires-clause-reserved c none switch =
-    let were : WereMadeOf c.args.self.now.traffic c.args.topology.now.fabric c.args.tables.now.cells c.in-Ok.made.cells = search rules in
+    let were : WereMadeOf c.args.self.now.traffic c.args.topology.now.fabric c.args.tables.now.cells c.in-Ok.made = search rules in
     were.shape.unowned switch 0 none ∙ c.requires.reserved switch
