@@ -52,8 +52,8 @@ line_of Usage =
     ++ codes "       fabric repaired TOPOLOGY TABLES [TRAFFIC]\n"
     ++ codes "       fabric lanes TOPOLOGY TABLES SL2VL LEVELS|any|LEVEL [REPLIES] [SILENT] [TRAFFIC]\n"
     ++ codes "       fabric between TOPOLOGY OLD NEW\n"
-    ++ codes "TRAFFIC: hosts|lids|managed|all|rows as last word, or -t TRAFFIC, --traffic TRAFFIC anywhere\n"
-    ++ codes "REPLIES: --replies yes|no anywhere; SILENT: --silent LEVEL anywhere\n"
+    ++ codes "TRAFFIC: hosts|lids|managed|all|rows as last word; or -t TRAFFIC, --traffic TRAFFIC after the command\n"
+    ++ codes "REPLIES: --replies yes|no after the command; SILENT: --silent LEVEL after the command\n"
 line_of (TopologyRefused line cause) = refusal_line (codes "topology") line (topology_cause cause)
 line_of (TopologyTooLong line) = refusal_line (codes "topology") line (codes "too many")
 line_of (TablesRefused line cause) = refusal_line (codes "tables") line (tables_cause cause)

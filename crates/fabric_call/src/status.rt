@@ -180,8 +180,8 @@ const USAGE: &str = "usage: fabric judge TOPOLOGY TABLES [TRAFFIC]
        fabric repaired TOPOLOGY TABLES [TRAFFIC]
        fabric lanes TOPOLOGY TABLES SL2VL LEVELS|any|LEVEL [REPLIES] [SILENT] [TRAFFIC]
        fabric between TOPOLOGY OLD NEW
-TRAFFIC: hosts|lids|managed|all|rows as last word, or -t TRAFFIC, --traffic TRAFFIC anywhere
-REPLIES: --replies yes|no anywhere; SILENT: --silent LEVEL anywhere
+TRAFFIC: hosts|lids|managed|all|rows as last word; or -t TRAFFIC, --traffic TRAFFIC after the command
+REPLIES: --replies yes|no after the command; SILENT: --silent LEVEL after the command
 ";
 
 // The fault of a file.
