@@ -7,7 +7,8 @@
 The folder is emptied first. Both are ended by their process numbers, and by the system (setpriv --pdeathsig) if this
 program is killed. They write into the folder alone; the socket of ibsim has the number of this process in its name. The
 programs are those of Debian's packages opensm, ibsim-utils and infiniband-diags. If these were only unpacked
-(`dpkg -x`), the variable OPENSM_ROOT names the folder."""
+(`dpkg -x`), with the libraries that they need (libopensm9, libosmcomp5, libosmvendor5, libibumad3, libibmad5,
+libibnetdisc5, libumad2sim0, libwrap0), the variable OPENSM_ROOT names the folder."""
 
 import os
 import pathlib
