@@ -9,7 +9,7 @@ import tempfile
 import program
 
 DOTS = "..."
-ROW = re.compile(r"\| `[^`]*` \| `[^`]*` \| `[^`]*` \|")
+ROW = re.compile(r"\| ?`[^`]*` ?\| ?`[^`]*` ?\| ?`[^`]*` ?\|")
 
 
 def sections_of(page):
