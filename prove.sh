@@ -143,7 +143,10 @@ want_rt() {
 # call of the wrapper builds, this one first waits for it. What such a call locks is the log.
 want_program() {
     want_rt
-    mkdir -p "$out" && true >> "$log" || { say "not built: there is no writing into $out"; exit 126; }
+    if ! { mkdir -p "$out" && true >> "$log"; }; then
+        say "not built: there is no writing into $out"
+        exit 126
+    fi
     exec 9>> "$log"
     flock -n 9 || { say "another call is building; this one waits for it"; flock 9; }
     is_current "$1" || build_anew "$1"

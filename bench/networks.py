@@ -1,4 +1,4 @@
-"""Networks that scripts of this folder and tests/view share, each as lines without the last, `end`."""
+"""Networks that scripts of this folder and tests/project/view share, each as lines without the last, `end`."""
 
 import random
 

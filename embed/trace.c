@@ -1,5 +1,5 @@
 /* Reads on standard input what happens to a switch, and prints what the switch of the library answers, in
- * the lines of crates/switch_trace. A line that says nothing of the kind ends the program with 1. */
+ * the lines of crates/tests_switch. A line that says nothing of the kind ends the program with 1. */
 #include "autonet.h"
 #include <ctype.h>
 #include <stdio.h>

@@ -86,7 +86,7 @@ def read_topology(lines):
     fabric = Fabric()
     first = lines[0].all[0]
     read = take_plain if first == "topology" else take_dumped if first == "{" else Discovered().take
-    for line in lines[first == "topology" :]:
+    for line in lines[first == "topology":]:
         try:
             read(fabric, line)
         except ValueError as error:

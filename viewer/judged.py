@@ -130,7 +130,8 @@ def in_words(fact):
         return f"Judged: routes {TRAFFIC.get(values[0], values[0])}."
     if form.startswith("routes"):
         unowned = f" {values[3]} of these are for LIDs that nobody owns." if len(values) > 3 else ""
-        return f"Of {plural(values[0], 'route')} {values[1]} arrive, over {plural(values[2], 'switch')} at most.{unowned}"
+        most = plural(values[2], "switch")
+        return f"Of {plural(values[0], 'route')} {values[1]} arrive, over {most} at most.{unowned}"
     if form.startswith("channels"):
         pairs = plural(values[1], "pair")
         takes = "of which some route takes the one and then the other"

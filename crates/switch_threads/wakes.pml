@@ -1,5 +1,5 @@
 /* A model of all that waits, rouses, sleeps and wakes in a run: src/shift.rt, src/rousing.rt and the loops of
- * src/running.rt.  `tests/wakes` walks through all its states with spin, and through those of the same with a bug in it
+ * src/running.rt.  `tests/autonet/by-hand/wakeup-model` walks through all its states with spin, and through those of the same with a bug in it
  * (BUG_..), each of which it wants to find.  Behind each line stands what it is a model of.
  *
  * There are PARTIES parties of EACH workers, the first with the driver.  What a party does behind the door is one step,

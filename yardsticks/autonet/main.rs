@@ -1,6 +1,7 @@
 //! The yardstick: an unverified program with the answers of `autonet` but `names`, to measure the proved one beside it.
-//! Want of memory ends it by an abort, and `run` takes one thread. For tests/moments it also has `wild SEED`, the
-//! journal of a run in an order that is drawn, and `moments`, which looks at each moment of a journal.
+//! Want of memory ends it by an abort, and `run` takes one thread. For
+//! tests/autonet/by-hand/claims-at-each-moment it also has `wild SEED`, the journal of a run in an order that is drawn,
+//! and `moments`, which looks at each moment of a journal.
 
 #![forbid(unsafe_code)]
 

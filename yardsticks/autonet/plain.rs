@@ -1,5 +1,5 @@
-//! What a topology and its tables are, as docs/SPECIFICATION.md says it: slow, for small networks, and with nothing
-//! of the code that makes them. Members are their places among the entries.
+//! What a topology and its tables are, as docs/autonet/specification.md says it: slow, for small networks, and with
+//! nothing of the code that makes them. Members are their places among the entries.
 
 use crate::life::{Entry, Life, Position, Topology};
 use std::collections::{BTreeMap, BTreeSet};

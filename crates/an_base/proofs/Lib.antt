@@ -1,13 +1,5 @@
-pub mod OrderingLemmas
 pub mod OrderLaws
 pub mod LifeLemmas
-pub mod ListLemmas
-pub mod MemberLemmas
-pub mod PairLemmas
-pub mod FlatMapLemmas
-pub mod PigeonLemmas
-pub mod TestLemmas
 pub mod WalkLemmas
 pub mod PlaceLaws
-pub mod RangeLemmas
 pub mod PortSetLemmas

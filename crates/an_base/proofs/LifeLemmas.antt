@@ -5,7 +5,7 @@ use Rattle.std.specs.Cmp.{tied_itself, Equal-is}
 use Rattle.std.proofs.lemmas.Bool.{false_from_ne_true}
 use Rattle.an_base.specs.Values.{LifeId}
 use Rattle.an_base.specs.Order.{life_cmp, IsBelow}
-use Rattle.an_base.proofs.OrderingLemmas.{less_is}
+use Rattle.common_values.proofs.OrderingLemmas.{less_is}
 use Rattle.an_base.specs.TotalOrders.{life_total}
 use Rattle.an_base.proofs.OrderLaws.{life_apart}
 

@@ -4,14 +4,10 @@ use Rattle.std.specs.Ordering.{nat_cmp, ordering_then, is_le}
 use Rattle.std.specs.declared.cmp.Ordering.{Ordering}
 use Rattle.std.specs.Cmp.{IsTotalOrder, then_total, on_total, nat_cmp_total}
 use Rattle.std.specs.Cmp.Lexicographic.{slice_cmp, lists_total}
-use Rattle.std.proofs.lemmas.Map.Lookups.{exact_unsigned}
 use Rattle.an_base.specs.Values.{LifeId, EndId, Place, PeerAt, EntryOf}
 use Rattle.an_base.specs.Order.{life_cmp, end_cmp, link_cmp, position_cmp, entry_cmp}
 use Rattle.an_base.specs.TotalOrders.{life_total, link_total}
-use Rattle.an_base.proofs.OrderingLemmas.{tied, then_equal}
-
-pub nat_apart : (a b : ℕ) → nat_cmp a b ≡ Equal → a ≡ b
-nat_apart = exact_unsigned
+use Rattle.common_values.proofs.OrderingLemmas.{nat_apart, tied, then_equal}
 
 -- two that are compared by two parts are one where both parts are alike
 parts_apart : {A B R : Type 0} (make : A → B → R) (a b : A) (c d : B) (first second : Ordering) → (first ≡ Equal → a ≡ b) → (second ≡ Equal → c ≡ d) → ordering_then first second ≡ Equal → make a c ≡ make b d

@@ -10,9 +10,9 @@ use Rattle.std.proofs.lemmas.List.Quantifiers.{all_pairs_push}
 use Rattle.std.proofs.lemmas.Nat.{and_le_l}
 use Rattle.std.proofs.lemmas.Nat.Bits.{bit_at-zero, bit_at_above, bit_at_and, bit_at_mask_inside, bit_at_mask_below, bit_at_mask_above, bit_at_set_same, bit_at_set_other, bit_at_clear_same, bit_at_clear_other, bit_at-lt, bit_at-trailing_zeros, same_from_bits}
 use Rattle.an_base.specs.Rows.{ArePorts, ExitsRise, HasPortsAlone, IsWithout, ports_of}
-use Rattle.an_base.proofs.ListLemmas.{AllPairs-head, AllPairs-tail, All-from_members}
-use Rattle.an_base.proofs.MemberLemmas.{Contains-here, Contains-later}
-use Rattle.an_base.proofs.RangeLemmas.{Contains-kept, in_range, kept_member, kept_passes, kept_range, range_rises, within_range}
+use Rattle.common_values.proofs.ListLemmas.{AllPairs-head, AllPairs-tail, All-from_members}
+use Rattle.common_values.proofs.MemberLemmas.{Contains-here, Contains-later}
+use Rattle.common_values.proofs.RangeLemmas.{Contains-kept, in_range, kept_member, kept_passes, kept_range, range_rises, within_range}
 
 -- the ports of a set are those whose bits are set
 pub port_is : (set p : ℕ) → Contains (ports_of set) p → (1 ≤ p) × (p ≤ 12) × (bit_at set p ≡ 1)

@@ -2,7 +2,7 @@
 use Rattle.std.specs.Prelude.{◌≢◌, ℕ, ◌≤◌, List, length, All, AllPairs}
 use Rattle.an_base.specs.declared.limits.TheConstants.{MOST_NUMBER, MOST_SWITCHES}
 
--- as many different numbers as a topology may have entries, and at least one
+-- `numbers` are different, each from 1 to MOST_NUMBER, at least one and at most MOST_SWITCHES of them
 pub record AreNumbers (numbers : List ℕ) : Type 0 where
   pub some : 1 ≤ length numbers
   pub most : length numbers ≤ MOST_SWITCHES

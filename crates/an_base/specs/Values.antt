@@ -1,16 +1,16 @@
--- What contracts see of lives, ends of links, positions, entries and the bodies that lives exchange,
--- and the ranges of the numbers in them.
+-- How contracts see lives, ends of links, positions, entries and the bodies that lives exchange, and the ranges of
+-- their numbers.
 use Rattle.std.specs.Prelude.{ℕ, ◌<◌, ◌≤◌, ◌^◌, Bool, List}
 
--- a number from least to most
+-- `number` is from `least` to `most`
 abbrev pub IsWithin : ℕ → ℕ → ℕ → Type 0
 IsWithin least most number = (least ≤ number) × (number ≤ most)
 
--- a number from 1 that four bytes hold
+-- `number` is at least 1 and fits into four bytes
 abbrev pub IsCounted : ℕ → Type 0
 IsCounted number = (1 ≤ number) × (number < 2 ^ 32)
 
--- a life: a switch's identifier and the number of its boot
+-- a life: a switch's identifier and its boot number
 pub record LifeId : Type 0 where
   pub uid : ℕ
   pub boot : ℕ
@@ -20,7 +20,7 @@ pub record EndId : Type 0 where
   pub life : LifeId
   pub port : ℕ
 
--- where a life stands in its tree: the root, how many links away that is, the parent, and the own port to it;
+-- the position of a life in its tree: the root, the number of links to it, the parent, and the own port to the parent;
 -- a root is its own parent, by port 0
 pub record Place : Type 0 where
   pub root : LifeId
@@ -33,26 +33,26 @@ pub record PeerAt : Type 0 where
   pub port : ℕ
   pub peer : EndId
 
--- what is known of one life: where it stands, the number that it proposes, and its links by rising port
+-- what is known about one life: its position, the number that it proposes, and its links in ascending order of port
 pub record EntryOf : Type 0 where
   pub life : LifeId
   pub position : Place
   pub proposed : ℕ
   pub links : List PeerAt
 
--- a position is told: its version, root and level, and whether the link is the parent link of who tells it
+-- a position that is sent: its version, root and level, and whether the link is the sender's link to its parent
 pub record PosOf : Type 0 where
   pub version : ℕ
   pub root : LifeId
   pub level : ℕ
   pub to_parent : Bool
 
--- a position was received: its version, and whether the link is the parent link of who received it
+-- an answer to a position: the version received, and whether the link is the link to the parent of the sender
 pub record AnswerOf : Type 0 where
   pub version : ℕ
   pub to_parent : Bool
 
--- a topology: its entries by rising life, and the number of each
+-- a topology: its entries in ascending order of life, and the number of each
 pub record TopoOf : Type 0 where
   pub entries : List EntryOf
   pub numbers : List ℕ

@@ -1,16 +1,16 @@
-//! The bodies of an epoch: positions and answers make the tree, reports go up it, and the topology comes down it.
+//! The bodies of an epoch: positions and answers build the tree, reports go up, and the topology comes down.
 
 ghost use Rattle.std.specs.Prelude.{◌≡◌, ◌≤◌, length, IfOk};
 ghost use Rattle.an_base.specs.declared.limits.TheConstants.{MOST_LEVEL};
 
 use crate::entry::Entries;
 use crate::life::Life;
-use crate::memory::OutOfMemory;
 use crate::numbers::Numbers;
+use common_values::memory::OutOfMemory;
 use std::alloc::Global;
 use std::marker::Model;
 
-/// A life tells its position to a neighbour.
+/// The body with which a life sends its position to a neighbour.
 #[derive(Clone, Copy, PartialEq, Eq)]
 pub struct PosBody {
     /// The version of the position, from 1.
@@ -39,7 +39,9 @@ impl Model for PosBody {
 }
 
 impl PosBody {
-    /// The body of these four parts.
+    /// Creates the body.
+    ///
+    /// The caller must pass a `version` of at least 1 and a `level` of at most 125.
     pub fn new(version: u32, root: Life, level: u8, to_parent: bool) -> Self
         requires version { 1 ≤ version }
         requires level { level ≤ MOST_LEVEL }
@@ -54,7 +56,7 @@ impl PosBody {
     }
 }
 
-/// A life answers the position that a neighbour told it.
+/// The body with which a life acknowledges a neighbour's position.
 #[derive(Clone, Copy, PartialEq, Eq)]
 pub struct AnswerBody {
     /// The version that was received, from 1.
@@ -76,7 +78,7 @@ impl Model for AnswerBody {
 }
 
 impl AnswerBody {
-    /// The body of these two parts.
+    /// Creates the body. The caller must pass a `version` of at least 1.
     pub fn new(version: u32, to_parent: bool) -> Self
         requires { 1 ≤ version }
         ensures { result ≡ record { version = version; to_parent = to_parent } }
@@ -85,12 +87,12 @@ impl AnswerBody {
     }
 }
 
-/// A topology goes down the tree: entries by rising life, and the number of each.
+/// The body that carries a topology down the tree: entries in ascending order of life, and the number of each.
 #[derive(Drop)]
 pub struct TopoBody {
     /// The entries of the topology.
     pub entries: Entries,
-    /// As many numbers, in the order of the entries.
+    /// The number of each entry, in the same order.
     pub numbers: Numbers,
 }
 
@@ -106,7 +108,7 @@ impl Model for TopoBody {
 }
 
 impl TopoBody {
-    /// The topology of these entries with these numbers.
+    /// Creates the topology. The caller must pass one number for each entry.
     pub fn new(entries: Entries, numbers: Numbers) -> Self
         requires { length entries ≡ length numbers }
         ensures { result ≡ record { entries = entries; numbers = numbers } }
@@ -114,7 +116,7 @@ impl TopoBody {
         TopoBody { entries, numbers }
     }
 
-    /// The entries by rising life.
+    /// Returns the entries in ascending order of life.
     pub fn entries(&self) -> &Entries
         ensures entries { result.now ≡ self.now.entries }
         ensures as_many { length self.now.entries ≡ length self.now.numbers }
@@ -122,7 +124,7 @@ impl TopoBody {
         &self.entries
     }
 
-    /// The number of each entry.
+    /// Returns the number of each entry.
     pub fn numbers(&self) -> &Numbers
         ensures numbers { result.now ≡ self.now.numbers }
         ensures as_many { length self.now.entries ≡ length self.now.numbers }
@@ -130,7 +132,10 @@ impl TopoBody {
         &self.numbers
     }
 
-    /// The same topology.
+    /// Copies the topology.
+    ///
+    /// # Errors
+    /// `OutOfMemory` if an allocation fails.
     pub fn copy(&self, alloc: Global) -> Result<Self, OutOfMemory>
         ensures { IfOk result (λ copy. copy ≡ self.now) }
     {
@@ -141,7 +146,7 @@ impl TopoBody {
     }
 }
 
-/// What two lives with a link between them tell each other within an epoch.
+/// A message between the two lives at the ends of a link, within an epoch.
 #[derive(Drop)]
 pub enum Body {
     /// The sender's position changed.
@@ -150,7 +155,7 @@ pub enum Body {
     Answer(AnswerBody),
     /// The sender is stable, and this is its report.
     Stable {
-        /// The report, by rising life.
+        /// The report, in ascending order of life.
         entries: Entries,
     },
     /// The sender has finished with this topology.
@@ -158,7 +163,10 @@ pub enum Body {
 }
 
 impl Body {
-    /// The same body.
+    /// Copies the body.
+    ///
+    /// # Errors
+    /// `OutOfMemory` if an allocation fails.
     pub fn copy(&self, alloc: Global) -> Result<Self, OutOfMemory>
         ensures { IfOk result (λ copy. copy ≡ self.now) }
     {

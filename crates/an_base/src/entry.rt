@@ -1,27 +1,26 @@
-//! What reports and topologies tell of each life. Of two entries of one life a report keeps the lesser.
+//! The entry of a life in reports and topologies. If a life has two entries, a report keeps the lower one.
 
 ghost use Rattle.std.specs.Prelude.{◌≡◌, ◌<◌, ◌≤◌, [], ◌∷◌, ◌++◌, length, All, IfOk, OnOk, OnErr};
 ghost use Rattle.an_base.specs.declared.limits.TheConstants.{MOST_SWITCHES};
 
 use crate::life::Life;
 use crate::links::Links;
-use crate::memory::OutOfMemory;
 use crate::position::Position;
+use common_values::memory::OutOfMemory;
 use std::alloc::Global;
 use std::cmp::Ordering;
 use std::marker::Model;
 
-/// What is known of one life: where it stands, the number that it proposes for itself, 1 to 126,
-/// and its links by rising port.
+/// What is known about one life.
 #[derive(Drop)]
 pub struct Entry {
-    /// The life of which this is known.
+    /// The life that the entry describes.
     pub life: Life,
-    /// Where it stands in its tree.
+    /// Its position in its tree.
     pub position: Position,
     /// The number that it proposes for itself, 1 to 126.
     pub proposed: u8,
-    /// Its links by rising port.
+    /// Its links in ascending order of port.
     pub links: Links,
 }
 
@@ -40,7 +39,7 @@ impl Model for Entry {
 impl Entry {
     ghost use Rattle.an_base.specs.Order.{entry_cmp};
 
-    /// The same entry, without taking memory.
+    /// Copies the entry without allocating.
     pub fn copy(&self) -> Self
         ensures { result ≡ self.now }
     {
@@ -52,8 +51,9 @@ impl Entry {
         }
     }
 
-    /// Which of two entries is the lesser: by position, then by proposed number, then by links as a
-    /// list. The life does not count, since it is entries of one life that are compared.
+    /// Compares two entries by position, then by proposed number, then by links as a list.
+    ///
+    /// It ignores the life, since the entries compared belong to one life.
     pub fn compare(&self, other: &Entry) -> Ordering
         ensures { result ≡ entry_cmp self.now other.now }
     {
@@ -64,7 +64,7 @@ impl Entry {
     }
 }
 
-/// Entries of one topology by rising life, 1 to 126, which contracts see as a list.
+/// One to 126 entries of one topology, in ascending order of life. Contracts see them as a list.
 #[derive(Drop)]
 pub struct Entries {
     items: Vec<Entry>,
@@ -87,7 +87,9 @@ impl Model for Entries {
 impl Entries {
     ghost use Rattle.an_base.specs.Order.{IsBelow, LivesRise};
 
-    /// The entries of a vector, without taking memory.
+    /// Wraps `items` without allocating.
+    ///
+    /// The caller must pass 1 to 126 entries in strictly ascending order of life.
     pub fn new(items: Vec<Entry>) -> Self
         requires some { 1 ≤ length items.items }
         requires most { length items.items ≤ MOST_SWITCHES }
@@ -97,7 +99,10 @@ impl Entries {
         Entries { items }
     }
 
-    /// One entry.
+    /// Creates the list of one entry.
+    ///
+    /// # Errors
+    /// `OutOfMemory` if the allocation fails.
     pub fn of(alloc: Global, entry: Entry) -> Result<Self, OutOfMemory>
         ensures { IfOk result (λ entries. entries ≡ entry ∷ []) }
     {
@@ -106,14 +111,14 @@ impl Entries {
         Ok(Entries { items })
     }
 
-    /// How many entries there are, 1 to 126.
+    /// Returns the number of entries, 1 to 126.
     pub fn len(&self) -> usize
         ensures { result ≡ length self.now }
     {
         self.items.len()
     }
 
-    /// The entries by rising life.
+    /// Returns the entries in ascending order of life.
     pub fn as_slice(&self) -> &[Entry]
         ensures all { result.now ≡ self.now }
         ensures some { 1 ≤ length self.now }
@@ -123,7 +128,10 @@ impl Entries {
         &self.items
     }
 
-    /// The same entries.
+    /// Copies the entries.
+    ///
+    /// # Errors
+    /// `OutOfMemory` if the allocation fails.
     pub fn copy(&self, alloc: Global) -> Result<Self, OutOfMemory>
         ensures { IfOk result (λ copy. copy ≡ self.now) }
     {
@@ -134,15 +142,20 @@ impl Entries {
         Ok(Entries { items })
     }
 
-    /// The entries as a vector, without taking memory.
+    /// Returns the entries as a vector without allocating.
     pub fn into_vec(self) -> Vec<Entry>
         ensures { result.items ≡ self }
     {
         self.items
     }
 
-    /// Adds an entry at the end. Its life is above those before it. If no memory is found,
-    /// nothing is added.
+    /// Adds `entry` at the end.
+    ///
+    /// The caller must pass an entry whose life is above the lives of all others, and at most 125 must
+    /// be there.
+    ///
+    /// # Errors
+    /// `OutOfMemory` if the allocation fails. The entries are then unchanged.
     pub fn push(&mut self, entry: Entry) -> Result<(), OutOfMemory>
         requires room { length self.old < MOST_SWITCHES }
         requires rising { All (λ e. IsBelow e.life entry.life) self.old }

@@ -1,33 +1,32 @@
-//! What can happen to a network. Scripts command some of these events, and a journal tells all of them.
+//! The events of a network. A script commands some of them, and a journal records all of them.
 
-use crate::items::Items;
 use crate::place::Place;
 use crate::port::Port;
+use common_values::items::Items;
 
-/// One event of a network. A host is named by its place in the script, from 0; a port is one of a
-/// switch, 1 to 12.
+/// One event of a network. A host is its index in the script, from 0; a port is a switch's, 1 to 12.
 #[derive(Clone, Copy, PartialEq, Eq)]
 pub enum Event {
-    /// The clock of the network goes on by one.
+    /// The clock of the network advances by one tick.
     Tick,
-    /// A switch takes its clock in hand, with the samples of its ports.
+    /// A switch takes its next clock event, with the samples of its ports, but does not handle it yet.
     Clock {
         /// The switch.
         s: Place,
     },
-    /// A switch takes a frame in hand from the wire that comes in at a port.
+    /// A switch takes a frame from the incoming wire of a port, but does not handle it yet.
     Take {
         /// The switch.
         s: Place,
         /// Its port.
         port: Port,
     },
-    /// A switch handles what it has in hand.
+    /// A switch handles what it has taken.
     Handle {
         /// The switch.
         s: Place,
     },
-    /// A switch loads the table of the topology with which it finished.
+    /// A switch loads the routing table of the topology that it finished with.
     Load {
         /// The switch.
         s: Place,
@@ -46,47 +45,47 @@ pub enum Event {
         /// Its port.
         port: Port,
     },
-    /// The next frames put on the wire out of a port are to be lost.
+    /// The next frames that are put on the outgoing wire of a port will be lost.
     Lose {
         /// The switch.
         s: Place,
         /// Its port.
         port: Port,
-        /// How many frames.
+        /// The number of frames.
         n: u32,
     },
-    /// The next takes from the wire out of a port are to leave a copy at its end.
+    /// The next takes from the outgoing wire of a port will leave a copy at its end.
     Again {
         /// The switch.
         s: Place,
         /// Its port.
         port: Port,
-        /// How many takes.
+        /// The number of takes.
         n: u32,
     },
-    /// The next takes from the wire out of a port that find two frames are to take the second.
+    /// The next takes from the outgoing wire of a port that find two frames will take the second.
     Swap {
         /// The switch.
         s: Place,
         /// Its port.
         port: Port,
-        /// How many takes.
+        /// The number of takes.
         n: u32,
     },
-    /// Bytes that are no frame are put on the wire out of a port.
+    /// Bytes that do not form a frame are put on the outgoing wire of a port.
     Noise {
         /// The switch.
         s: Place,
         /// Its port.
         port: Port,
-        /// How many bytes.
+        /// The number of bytes.
         n: u32,
     },
     /// A host sends a packet to a host.
     Send {
         /// The host that sends.
         host: u16,
-        /// The host to which it sends.
+        /// The host that it sends to.
         to: u16,
     },
     /// A packet makes one hop.
@@ -94,12 +93,12 @@ pub enum Event {
         /// The packet's number, from 1.
         packet: u32,
     },
-    /// A switch is switched off and on, and begins its next life.
+    /// A switch restarts, and begins its next life.
     Restart {
         /// The switch.
         s: Place,
     },
 }
 
-/// The events of a run in their order.
+/// The events of a run, in order.
 pub type Journal = Items<Event>;

@@ -1,4 +1,4 @@
-//! What goes over a wire: numbered bodies of sessions, acknowledgements of them, and probes with their replies.
+//! The frames on a wire: numbered bodies of sessions, their acknowledgements, and probes with their replies.
 
 ghost use Rattle.std.specs.Prelude.{◌≡◌, ◌≤◌};
 
@@ -6,14 +6,14 @@ use crate::body::Body;
 use crate::life::End;
 use std::marker::Model;
 
-/// A body on its way, with the session to which it belongs and its number there.
+/// A frame that carries a body, with its session and its number there.
 #[derive(Drop)]
 pub struct CarryFrame {
     /// The epoch of the session.
     pub epoch: u64,
     /// The end that sent it.
     pub from: End,
-    /// The end that is to accept it.
+    /// The end that it is sent to.
     pub to: End,
     /// The number of the body in its direction of the session, from 1.
     pub k: u32,
@@ -33,7 +33,7 @@ impl Model for CarryFrame {
 }
 
 impl CarryFrame {
-    /// The frame of these five parts.
+    /// Creates the frame. The caller must pass a `k` of at least 1.
     pub fn new(epoch: u64, from: End, to: End, k: u32, body: Body) -> Self
         requires { 1 ≤ k }
         ensures { result ≡ record { epoch = epoch; from = from; to = to; number = k; body = body } }
@@ -48,12 +48,12 @@ impl CarryFrame {
     }
 }
 
-/// What goes over a wire between two switches.
+/// A frame between two switches.
 #[derive(Drop)]
 pub enum Frame {
     /// A body of a session.
     Carry(CarryFrame),
-    /// All bodies of a session up to a number were accepted.
+    /// An acknowledgement of all bodies of a session up to a number.
     Ack {
         /// The epoch of the session.
         epoch: u64,
@@ -61,17 +61,17 @@ pub enum Frame {
         from: End,
         /// The end that sent them.
         to: End,
-        /// The number of the last body that was accepted; 0 for none.
+        /// The number of the last body accepted; 0 if there is none.
         n: u32,
     },
-    /// Who is at the other end?
+    /// A question: which end is at the other side of the link?
     Probe {
         /// The end that asks.
         from: End,
-        /// A number by which the reply is known.
+        /// A number that identifies the reply.
         nonce: u64,
     },
-    /// Who is at this end.
+    /// The reply to a probe: this end is at the other side.
     Reply {
         /// The end that replies.
         from: End,

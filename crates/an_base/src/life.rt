@@ -1,17 +1,16 @@
-//! Who speaks, and over which link. A switch that restarts is a new life, with a new number of its boot.
+//! Lives, and the ends of links. A switch that restarts begins a new life, with a new boot number.
 
 ghost use Rattle.std.specs.Prelude.{◌≡◌, ◌≤◌, ◌<◌, ◌^◌};
 ghost use Rattle.an_base.specs.declared.limits.TheConstants.{LAST_PORT};
 
 use std::marker::Model;
 
-/// A life of a switch: the switch's identifier, below 2^48, and the number of its boot, from 1.
-/// Lives are ordered by identifier, then by boot.
+/// A life of a switch. Lives are ordered by identifier, then by boot.
 #[derive(Clone, Copy, Debug, PartialEq, Eq, PartialOrd, Ord)]
 pub struct Life {
-    /// The switch's identifier, below 2^48.
+    /// The identifier of the switch, below 2^48.
     pub uid: u64,
-    /// The number of the boot, from 1.
+    /// The boot number, from 1.
     pub boot: u32,
 }
 
@@ -29,7 +28,7 @@ impl Model for Life {
 }
 
 impl Life {
-    /// The life of this identifier and boot.
+    /// Creates a life. The caller must pass a `uid` below 2^48 and a `boot` of at least 1.
     pub const fn new(uid: u64, boot: u32) -> Self
         requires uid { uid < 2 ^ 48 }
         requires boot { 1 ≤ boot }
@@ -38,7 +37,7 @@ impl Life {
         Life { uid, boot }
     }
 
-    /// The switch's identifier, below 2^48.
+    /// Returns the identifier of the switch, below 2^48.
     pub fn uid(self) -> u64
         ensures uid { result ≡ self.uid }
         ensures most { self.uid < 2 ^ 48 }
@@ -46,7 +45,7 @@ impl Life {
         self.uid
     }
 
-    /// The number of the boot, from 1.
+    /// Returns the boot number, from 1.
     pub fn boot(self) -> u32
         ensures boot { result ≡ self.boot }
         ensures least { 1 ≤ self.boot }
@@ -55,10 +54,10 @@ impl Life {
     }
 }
 
-/// One end of a link: a life and an external port of it, 1 to 12.
+/// One end of a link: a life and one of its external ports, 1 to 12.
 #[derive(Clone, Copy, PartialEq, Eq, PartialOrd, Ord)]
 pub struct End {
-    /// The life at this end.
+    /// The life of this end.
     pub life: Life,
     /// Its port, 1 to 12.
     pub port: u8,
@@ -78,7 +77,7 @@ impl Model for End {
 }
 
 impl End {
-    /// The end at this port of this life.
+    /// Creates the end at `port` of `life`. The caller must pass a port from 1 to 12.
     pub fn new(life: Life, port: u8) -> Self
         requires least { 1 ≤ port }
         requires most { port ≤ LAST_PORT }
@@ -87,14 +86,14 @@ impl End {
         End { life, port }
     }
 
-    /// The life at this end.
+    /// Returns the life at this end.
     pub fn life(self) -> Life
         ensures { result ≡ self.life }
     {
         self.life
     }
 
-    /// The port at this end, 1 to 12.
+    /// Returns the port at this end, 1 to 12.
     pub fn port(self) -> u8
         ensures port { result ≡ self.port }
         ensures least { 1 ≤ self.port }

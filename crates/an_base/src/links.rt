@@ -1,4 +1,4 @@
-//! The links of a life, as its entry tells them. They stand in an array, so a copy of an entry takes no memory.
+//! The links of a life in its entry. They are in an array, so copying an entry does not allocate.
 
 ghost use Rattle.std.specs.Prelude.{◌≡◌, ◌==◌, ◌<◌, ◌≤◌, [], ◌∷◌, ◌++◌, length, All};
 ghost use Rattle.std.proofs.Common.{rules};
@@ -14,7 +14,8 @@ use crate::limits::PORTS;
 use std::cmp::Ordering;
 use std::marker::Model;
 
-/// A link as one of its ends names it: the own port, 1 to 12, and the other end.
+/// A link as seen from one end: its own port, 1 to 12, and the other end.
+///
 /// Such links are ordered by port, then by the other end.
 #[derive(Clone, Copy, PartialEq, Eq)]
 pub struct PortLink {
@@ -76,7 +77,7 @@ impl Ord for PortLink {
 }
 
 impl PortLink {
-    /// The link from this port to this other end.
+    /// Creates the link from `port` to `peer`. The caller must pass a port from 1 to 12.
     pub fn new(port: u8, peer: End) -> Self
         requires least { 1 ≤ port }
         requires most { port ≤ LAST_PORT }
@@ -91,7 +92,7 @@ impl PortLink {
         }
     }
 
-    /// The own port, 1 to 12.
+    /// Returns its own port, 1 to 12.
     pub fn port(&self) -> u8
         ensures port { result ≡ self.now.port }
         ensures least { 1 ≤ self.now.port }
@@ -100,7 +101,7 @@ impl PortLink {
         self.port
     }
 
-    /// The other end.
+    /// Returns the other end.
     pub fn peer(&self) -> End
         ensures { result ≡ self.now.peer }
     {
@@ -108,7 +109,7 @@ impl PortLink {
     }
 }
 
-/// The links of a life by rising port, at most twelve, which contracts see as a list.
+/// At most twelve links of a life, in ascending order of port. Contracts see them as a list.
 #[derive(Drop)]
 pub struct Links {
     items: [PortLink; PORTS],
@@ -132,7 +133,7 @@ impl Links {
     ghost use Rattle.std.specs.Prelude.{◌≤◌};
     ghost use Rattle.an_base.specs.Order.{PortsRise};
 
-    /// No links.
+    /// Creates a list of no links.
     pub fn new() -> Self
         ensures { result ≡ [] }
     {
@@ -143,21 +144,21 @@ impl Links {
         }
     }
 
-    /// How many links there are, 0 to 12.
+    /// Returns the number of links, 0 to 12.
     pub fn len(&self) -> usize
         ensures { result ≡ length self.now }
     {
         self.as_slice().len()
     }
 
-    /// Whether there are no links.
+    /// Reports whether there are no links.
     pub fn is_empty(&self) -> bool
         ensures { result ≡ (length self.now == 0) }
     {
         self.as_slice().is_empty()
     }
 
-    /// The links by rising port.
+    /// Returns the links in ascending order of port.
     pub fn as_slice(&self) -> &[PortLink]
         ensures all { result.now ≡ self.now }
         ensures most { length self.now ≤ PORTS }
@@ -166,7 +167,7 @@ impl Links {
         &self.items[..self.len]
     }
 
-    /// The same links, without taking memory.
+    /// Copies the links without allocating.
     pub fn copy(&self) -> Self
         ensures { result ≡ self.now }
     {
@@ -176,7 +177,9 @@ impl Links {
         }
     }
 
-    /// Adds a link at the end. Its port is above those of the links before it.
+    /// Adds `link` at the end.
+    ///
+    /// The caller must pass a link whose port is above the ports of all others, and at most 11 must be there.
     pub fn push(&mut self, link: PortLink)
         requires room { length self.old < PORTS }
         requires rising { All (λ l. l.port < link.port) self.old }

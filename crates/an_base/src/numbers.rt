@@ -1,13 +1,14 @@
-//! The numbers that a root gives to the members of its topology, by which packets are addressed.
+//! The numbers that a root assigns to the members of its topology. Packets are addressed to these numbers.
 
 ghost use Rattle.std.specs.Prelude.{◌≡◌, length, IfOk};
 
-use crate::memory::OutOfMemory;
+use common_values::memory::OutOfMemory;
 use std::alloc::Global;
 use std::marker::Model;
 
-/// The numbers of the entries of a topology, in the order of the entries: 1 to 126 of them, each 1
-/// to 126, all different. Contracts see them as a list.
+/// The numbers of the entries of a topology, in the order of the entries. Contracts see them as a list.
+///
+/// There are 1 to 126 numbers; each is from 1 to 126, and all are different.
 #[derive(Drop)]
 pub struct Numbers {
     items: Vec<u8>,
@@ -27,7 +28,9 @@ impl Model for Numbers {
 impl Numbers {
     ghost use Rattle.an_base.specs.Numbers.{AreNumbers};
 
-    /// The numbers of a vector, without taking memory.
+    /// Wraps `items` without allocating.
+    ///
+    /// The caller must pass 1 to 126 different numbers, each from 1 to 126.
     pub fn new(items: Vec<u8>) -> Self
         requires { AreNumbers items.items }
         ensures { result ≡ items.items }
@@ -35,14 +38,14 @@ impl Numbers {
         Numbers { items }
     }
 
-    /// How many numbers there are, 1 to 126.
+    /// Returns how many numbers there are, 1 to 126.
     pub fn len(&self) -> usize
         ensures { result ≡ length self.now }
     {
         self.items.len()
     }
 
-    /// The numbers in the order of the entries.
+    /// Returns the numbers in the order of the entries.
     pub fn as_slice(&self) -> &[u8]
         ensures all { result.now ≡ self.now }
         ensures numbers { AreNumbers self.now }
@@ -50,7 +53,10 @@ impl Numbers {
         &self.items
     }
 
-    /// The same numbers.
+    /// Copies the numbers.
+    ///
+    /// # Errors
+    /// `OutOfMemory` if the allocation fails.
     pub fn copy(&self, alloc: Global) -> Result<Self, OutOfMemory>
         ensures { IfOk result (λ copy. copy ≡ self.now) }
     {

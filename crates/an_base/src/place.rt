@@ -1,10 +1,10 @@
-//! How code names a switch of a script: by a type of its own, so that no place is taken for a port.
+//! The index of a switch in a script. It has its own type, so that code cannot confuse it with a port.
 
 ghost use Rattle.std.specs.Prelude.{◌≡◌};
 
 use std::marker::Model;
 
-/// The place of a switch in its script, from 0. Contracts see it as the number.
+/// The index of a switch in its script, from 0. Contracts see it as a number.
 #[derive(Clone, Copy, PartialEq, Eq, PartialOrd, Ord)]
 pub struct Place(pub u8);
 
@@ -19,7 +19,7 @@ impl Model for Place {
 }
 
 impl Place {
-    /// Its number.
+    /// Returns the index as a number.
     pub fn as_u8(self) -> u8
         ensures { result ≡ self }
     {

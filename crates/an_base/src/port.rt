@@ -1,4 +1,4 @@
-//! Ports, what a switch takes to be at each, and what it shows of itself.
+//! Ports, their states, and the public state of a switch.
 
 ghost use Rattle.std.specs.Prelude.{◌≡◌, ◌-◌, ◌≤◌, Some, None, length, slice_get, slice_set};
 ghost use Rattle.std.specs.Prelude.{replicate};
@@ -9,7 +9,7 @@ use crate::life::{End, Life};
 use crate::limits::PORTS;
 use std::marker::Model;
 
-/// A port of a switch: 1 to 12, or 0 for the switch itself. Contracts see it as the number.
+/// A port of a switch: 1 to 12, or 0 for the switch itself. Contracts see it as a number.
 #[derive(Clone, Copy, PartialEq, Eq, PartialOrd, Ord)]
 pub struct Port(pub u8);
 
@@ -24,7 +24,7 @@ impl Model for Port {
 }
 
 impl Port {
-    /// Its number.
+    /// Returns the port as a number.
     pub fn as_u8(self) -> u8
         ensures { result ≡ self }
     {
@@ -64,12 +64,12 @@ impl From<Port> for u64 {
     }
 }
 
-/// What a switch takes the other end of a port to be.
+/// What a switch assumes to be at the other end of a port.
 #[derive(Clone, Copy, PartialEq, Eq)]
 pub enum PortState {
     /// There is no link, or it has failed.
     Dead,
-    /// The link came up again, and what is at its other end is not yet asked.
+    /// The link came up again, and the switch has not yet asked what is at its other end.
     Checking,
     /// A host.
     Host,
@@ -77,11 +77,11 @@ pub enum PortState {
     Who,
     /// This switch itself.
     Loop,
-    /// Another switch, which is known.
+    /// Another switch, whose life and port are known.
     Good,
 }
 
-/// What the hardware says of a port at a clock.
+/// What the hardware reports about a port at a clock event.
 #[derive(Clone, Copy, PartialEq, Eq)]
 pub enum Sample {
     /// There is no link, or it is down.
@@ -92,7 +92,7 @@ pub enum Sample {
     Switch,
 }
 
-/// The state of a port, with the other end if it is known.
+/// The state of a port, and the other end if it is known.
 #[derive(Clone, Copy, PartialEq, Eq)]
 pub struct PortView {
     /// The state.
@@ -111,7 +111,7 @@ impl Model for PortView {
     ghost inverse = { λ v. record { state = v.state; peer = v.peer } };
 }
 
-/// The twelve ports of a switch from port 1, which contracts see as a list.
+/// The twelve ports of a switch, from port 1. Contracts see them as a list.
 #[derive(Drop)]
 pub struct Ports {
     views: [PortView; PORTS],
@@ -127,7 +127,7 @@ impl Model for Ports {
 }
 
 impl Ports {
-    /// Twelve dead ports.
+    /// Creates twelve dead ports.
     pub fn new() -> Self
         ensures { result ≡ replicate PORTS (record { state = Dead; peer = None }) }
     {
@@ -140,7 +140,7 @@ impl Ports {
         }
     }
 
-    /// The twelve ports from port 1.
+    /// Returns the twelve ports, from port 1.
     pub fn as_slice(&self) -> &[PortView]
         ensures all { result.now ≡ self.now }
         ensures twelve { length self.now ≡ PORTS }
@@ -148,7 +148,7 @@ impl Ports {
         &self.views
     }
 
-    /// A port, 1 to 12.
+    /// Returns the view of `port`. The caller must pass a port from 1 to 12.
     pub fn get(&self, port: u8) -> PortView
         requires least { 1 ≤ port }
         requires most { port ≤ LAST_PORT }
@@ -157,7 +157,7 @@ impl Ports {
         self.views[usize::from(port - 1)]
     }
 
-    /// Sets a port, 1 to 12, and leaves the others as they were.
+    /// Sets the view of `port`, and changes no other port. The caller must pass a port from 1 to 12.
     pub fn set(&mut self, port: u8, view: PortView)
         requires least { 1 ≤ port }
         requires most { port ≤ LAST_PORT }
@@ -166,7 +166,7 @@ impl Ports {
         self.views[usize::from(port - 1)] = view;
     }
 
-    /// The same ports, without taking memory.
+    /// Copies the ports without allocating.
     pub fn copy(&self) -> Self
         ensures { result ≡ self.now }
     {
@@ -174,11 +174,10 @@ impl Ports {
     }
 }
 
-/// What a switch shows of itself: who it is, the epoch that it is in, its ports, whether it is to
-/// load a table, and whether a body that it sent is waiting or not yet acknowledged.
+/// The public state of a switch.
 #[derive(Drop)]
 pub struct Note {
-    /// The switch's present life.
+    /// The current life of the switch.
     pub life: Life,
     /// The epoch that it is in.
     pub epoch: u64,
@@ -186,7 +185,7 @@ pub struct Note {
     pub ports: Ports,
     /// Whether it has finished an epoch and not yet loaded the table.
     pub load_due: bool,
-    /// Whether some body is waiting to be sent, or sent and not acknowledged.
+    /// Whether some body is waiting to be sent, or is sent but not acknowledged.
     pub unacked: bool,
 }
 
@@ -200,7 +199,7 @@ impl Model for Note {
 }
 
 impl Note {
-    /// The same note, without taking memory.
+    /// Copies the note without allocating.
     pub fn copy(&self) -> Self
         ensures { result ≡ self.now }
     {

@@ -1,4 +1,4 @@
-//! A place in the spanning tree. A life takes the least one, of its own as a root and those that its links offer.
+//! A position in the spanning tree. A life takes the least of its own position as a root and those that links offer.
 
 ghost use Rattle.std.specs.Prelude.{◌≡◌, ◌≤◌};
 ghost use Rattle.an_base.specs.declared.limits.TheConstants.{LAST_PORT, MOST_LEVEL};
@@ -6,16 +6,16 @@ ghost use Rattle.an_base.specs.declared.limits.TheConstants.{LAST_PORT, MOST_LEV
 use crate::life::Life;
 use std::marker::Model;
 
-/// Where a life stands in its tree. Positions are ordered by root, level, parent and port.
+/// The position of a life in its tree. Positions are ordered by root, level, parent and port.
 #[derive(Clone, Copy, PartialEq, Eq, PartialOrd, Ord)]
 pub struct Position {
     /// The root of the tree.
     pub root: Life,
-    /// How many links it is to the root, 0 to 125.
+    /// The number of links to the root, 0 to 125.
     pub level: u8,
-    /// The next life towards the root; at a root it is the root itself.
+    /// The next life towards the root; for a root, the root itself.
     pub parent: Life,
-    /// The holder's own port to its parent, 1 to 12; 0 at a root.
+    /// The life's own port to its parent, 1 to 12; 0 for a root.
     pub port: u8,
 }
 
@@ -33,7 +33,7 @@ impl Model for Position {
 }
 
 impl Position {
-    /// The position of these four parts.
+    /// Creates a position. The caller must pass a `level` of at most 125 and a `port` of at most 12.
     pub fn new(root: Life, level: u8, parent: Life, port: u8) -> Self
         requires level { level ≤ MOST_LEVEL }
         requires port { port ≤ LAST_PORT }

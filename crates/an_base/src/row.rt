@@ -1,4 +1,4 @@
-//! Rows of routing tables, and their exits. Exits are one word of bits, of which a list is made to go over them.
+//! Rows of routing tables, and their exits. Exits are the bits of a word; a list of them is made to iterate over.
 
 ghost use Rattle.std.specs.Prelude.{◌≡◌, ◌==◌, ◌<◌, ◌≤◌, [], ◌∷◌, ◌++◌, length, All};
 ghost use Rattle.an_base.specs.Rows.{HasPortsAlone, ports_of};
@@ -8,7 +8,7 @@ use crate::limits::PORTS;
 use crate::port_set::{lowest, without};
 use std::marker::Model;
 
-/// Ports, 1 to 12, rising, one after the other, to go over them. Contracts see a list.
+/// A list of ports, 1 to 12, in ascending order. Contracts see a list.
 #[derive(Drop)]
 pub struct ExitList {
     ports: [u8; PORTS],
@@ -32,7 +32,7 @@ impl ExitList {
     ghost use Rattle.std.specs.Prelude.{◌≤◌};
     ghost use Rattle.an_base.specs.Rows.{ArePorts, ExitsRise};
 
-    /// No ports.
+    /// Creates an empty list.
     pub fn new() -> Self
         ensures { result ≡ [] }
     {
@@ -42,7 +42,7 @@ impl ExitList {
         }
     }
 
-    /// The ports, rising.
+    /// Returns the ports in ascending order.
     pub fn as_slice(&self) -> &[u8]
         ensures all { result.now ≡ self.now }
         ensures most { length self.now ≤ PORTS }
@@ -52,7 +52,9 @@ impl ExitList {
         &self.ports[..usize::from(self.len)]
     }
 
-    /// Adds a port at the end, 1 to 12 and above those before it.
+    /// Adds `port` at the end.
+    ///
+    /// The caller must pass a port from 1 to 12 that is above all others, and at most 11 must be there.
     pub fn push(&mut self, port: u8)
         requires room { length self.old < PORTS }
         requires least { 1 ≤ port }
@@ -80,7 +82,7 @@ fn ports_in(set: u16) -> ExitList
     ports
 }
 
-/// The ports, 1 to 12, by which a packet may leave, which contracts see as a list, rising.
+/// The ports, 1 to 12, by which a packet may leave. Contracts see them as a list in ascending order.
 #[derive(Drop)]
 pub struct Exits {
     // Bit `p` says that port `p` is one.
@@ -103,14 +105,14 @@ impl Exits {
     ghost use Rattle.std.specs.Int.{bit_at};
     ghost use Rattle.an_base.specs.Rows.{ArePorts, ports_of};
 
-    /// No exits.
+    /// Creates an empty set of exits.
     pub fn new() -> Self
         ensures { result ≡ [] }
     {
         Exits { set: 0 }
     }
 
-    /// The ports of a set: bit `p` of it says that it has port `p`, 1 to 12.
+    /// Returns the exits of `set`: port `p`, 1 to 12, is an exit if and only if bit `p` is set.
     pub fn of_set(set: u16) -> Self
         ensures { result ≡ ports_of set }
     {
@@ -118,7 +120,7 @@ impl Exits {
         Exits { set: set & 8190 }
     }
 
-    /// The set of the exits: bit `p` of it says that port `p` is one.
+    /// Returns the exits as a set: bit `p` is set if and only if port `p` is an exit.
     pub fn as_set(&self) -> u16
         ensures each { (port : ℕ) → (bit_at result port ≡ 1) ↔ Contains self.now port }
         ensures ports { ArePorts self.now }
@@ -126,28 +128,28 @@ impl Exits {
         self.set
     }
 
-    /// Whether there are no exits.
+    /// Reports whether there are no exits.
     pub fn is_empty(&self) -> bool
         ensures { result ≡ (length self.now == 0) }
     {
         self.set == 0
     }
 
-    /// The exits one after the other, rising.
+    /// Returns the exits as a list in ascending order.
     pub fn list(&self) -> ExitList
         ensures { result ≡ self.now }
     {
         ports_in(self.set)
     }
 
-    /// The same exits.
+    /// Copies the exits.
     pub fn copy(&self) -> Self
         ensures { result ≡ self.now }
     {
         Exits { set: self.set }
     }
 
-    /// Adds an exit, 1 to 12 and above those before it.
+    /// Adds the exit `port`. The caller must pass a port from 1 to 12 that is above all other exits.
     pub fn push(&mut self, port: u8)
         requires least { 1 ≤ port }
         requires most { port ≤ LAST_PORT }
@@ -158,17 +160,16 @@ impl Exits {
     }
 }
 
-/// One row of a routing table: at a switch, for packets that came in at one entry and go to one
-/// number, the exits by which they may go on.
+/// One row of a routing table: the exits for the packets that arrive at one port of a switch and go to one number.
 #[derive(Drop)]
 pub struct Row {
-    /// The switch: its number in the topology, or its place in the script, as the holder says.
+    /// The switch: its number in the topology or its index in the script, as the user of the row defines.
     pub at: u8,
-    /// The port at which packets came in; 0 for those of the switch itself.
+    /// The port where packets arrive; 0 for the packets of the switch itself.
     pub entry: u8,
-    /// The number of the switch to which they go.
+    /// The number of the switch that they go to.
     pub to: u8,
-    /// The exits, rising.
+    /// The exits, in ascending order.
     pub exits: Exits,
 }
 

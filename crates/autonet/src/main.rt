@@ -1,12 +1,12 @@
-//! The program: it reads its words and makes the one call of `commands` over the standard streams.
-//!
-//! It has no contract of its own: what it prints, and its status, are those of the call.
+//! autonet, commands: the program `autonet`.
+//! It reads its arguments and makes the one call of `commands` over the standard streams. Its
+//! output and exit status are those of this call; it has no contract of its own.
 #![tactic(auto)]
 
-use an_base::memory::OutOfMemory;
-use answering::status::{Status, finish};
-use calling::words::words_of_call;
+use autonet_call::status::{Status, finish};
 use commands::top::autonet;
+use common_call::words::words_of_call;
+use common_values::memory::OutOfMemory;
 use outside::standard::{StdSink, StdSource};
 use std::process::ExitCode;
 use switch_threads::Open;

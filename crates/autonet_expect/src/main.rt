@@ -1,13 +1,13 @@
-//! The program of `expect` alone, which is proved and built long before that of all commands.
-//!
-//! It has no contract of its own: what it prints, and its status, are those of the call.
+//! autonet, commands: a small program that runs only `expect`.
+//! It is proved and built long before the program with all commands. Its output and exit status are
+//! those of the call in `autonet_call`; it has no contract of its own.
 #![tactic(auto)]
 
-use an_base::memory::OutOfMemory;
-use answering::expect::autonet_expect;
-use answering::status::{Status, finish};
-use answering::words::is_word;
-use calling::words::words_of_call;
+use autonet_call::expect::autonet_expect;
+use autonet_call::status::{Status, finish};
+use autonet_call::words::is_word;
+use common_call::words::words_of_call;
+use common_values::memory::OutOfMemory;
 use outside::standard::{StdSink, StdSource};
 use std::process::ExitCode;
 

@@ -1,13 +1,12 @@
-//! The program of the commands that need a network file alone, or with its tables, which is proved and built long
-//! before that of all commands.
-//!
-//! It has no contract of its own: what it prints, and its status, are those of the call.
+//! autonet, commands: a small program that runs `expect`, `check`, `flood` and `flow`.
+//! It is proved and built long before the program with all commands. Its output and exit status are those of the
+//! call in `autonet_file_commands`; it has no contract of its own.
 #![tactic(auto)]
 
-use an_base::memory::OutOfMemory;
-use answering::status::{Status, finish};
-use calling::words::words_of_call;
-use file_commands::file::{answer_file, command_of};
+use autonet_call::status::{Status, finish};
+use autonet_file_commands::file::{answer_file, command_of};
+use common_call::words::words_of_call;
+use common_values::memory::OutOfMemory;
 use outside::standard::{StdSink, StdSource};
 use std::process::ExitCode;
 

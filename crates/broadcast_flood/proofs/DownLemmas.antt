@@ -14,9 +14,9 @@ use Rattle.updown.specs.Order.{IsDescent}
 use Rattle.updown.specs.Routes.{height_cmp}
 use Rattle.updown.proofs.OrderLemmas.{position_is}
 use Rattle.updown.proofs.RouteLemmas.{height_total}
-use Rattle.an_base.proofs.PairLemmas.{AllPairs-map}
-use Rattle.an_base.proofs.MemberLemmas.{Contains-image}
-use Rattle.an_base.proofs.FlatMapLemmas.{Contains-flat_map, All-flat_map, AllPairs-flat_map, flat_map-more}
+use Rattle.common_values.proofs.PairLemmas.{AllPairs-map}
+use Rattle.common_values.proofs.MemberLemmas.{Contains-image}
+use Rattle.common_values.proofs.FlatMapLemmas.{Contains-flat_map, All-flat_map, AllPairs-flat_map, flat_map-more}
 use Rattle.broadcast_flood.specs.Tree.{parent_port, IsDown, AreChildPorts}
 use Rattle.broadcast_flood.specs.Floods.{HopOf, IsBefore, hop_at, down_at}
 use Rattle.broadcast_flood.specs.Kept.{AreChildren, AreHopsDown}

@@ -10,7 +10,7 @@ use Rattle.std.proofs.lemmas.List.{get_or_default}
 use Rattle.std.proofs.lemmas.List.Elements.{All-contains}
 use Rattle.an_base.specs.Values.{LifeId, EntryOf}
 use Rattle.an_base.specs.Order.{life_cmp}
-use Rattle.an_base.proofs.MemberLemmas.{one_rising}
+use Rattle.common_values.proofs.MemberLemmas.{one_rising}
 use Rattle.topo_graph.specs.Topology.{far_of, level_at, life_at, IsGraph, IsTree}
 use Rattle.updown.specs.Routes.{height_cmp}
 use Rattle.updown.proofs.RouteLemmas.{height_total}

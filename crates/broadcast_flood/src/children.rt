@@ -1,12 +1,12 @@
-//! Tree links downward. A position tells only the way to the parent, so children are found from the far side.
+//! Tree links downward. A position names only the port to the parent, so children are found from the far side.
 
 ghost use Rattle.std.specs.Prelude.{◌≡◌, ◌↔◌, ◌<◌, length, IfOk, IsTrue};
 ghost use Rattle.topo_graph.specs.Topology.{IsGraph};
 ghost use Rattle.broadcast_flood.specs.Tree.{AreChildPorts, IsDown};
 ghost use Rattle.broadcast_flood.specs.Kept.{AreChildren};
 
-use an_base::memory::OutOfMemory;
 use an_base::row::ExitList;
+use common_values::memory::OutOfMemory;
 use std::alloc::Global;
 use topo_graph::graph::Graph;
 
@@ -35,7 +35,10 @@ fn child_ports(graph: &Graph, x: u8) -> ExitList
     ports
 }
 
-/// The ports to the children of each member, by place.
+/// Returns the ports to the children of each member, in the order of the members.
+///
+/// # Errors
+/// `OutOfMemory` if an allocation fails.
 pub fn children_of(alloc: Global, graph: &Graph) -> Result<Vec<ExitList>, OutOfMemory>
     ensures children { IfOk result (λ children. AreChildren graph.now (length graph.now) children.items) }
     ensures graph { IfOk result (λ _. IsGraph graph.now) }

@@ -1,4 +1,4 @@
-//! The hops of broadcasts. Those downward are the same for all who send, and are made once.
+//! The hops of broadcasts. The hops downward are the same for all senders, and are computed once.
 
 ghost use Rattle.std.specs.Prelude.{◌≡◌, ◌↔◌, ◌<◌, ◌++◌};
 ghost use Rattle.std.specs.Prelude.{Any, length, map, IfOk, IfSome, IsNone, OnOk};
@@ -10,8 +10,8 @@ ghost use Rattle.broadcast_flood.specs.Tree.{AreChildPortsOf, IsParentPort};
 use crate::children::children_of;
 use crate::hop::FloodHop;
 use an_base::life::Life;
-use an_base::memory::OutOfMemory;
 use an_base::row::ExitList;
+use common_values::memory::OutOfMemory;
 use std::alloc::Global;
 use std::marker::Model;
 use topo_graph::graph::Graph;
@@ -50,7 +50,7 @@ fn hops_down(
     Ok(hops)
 }
 
-/// How broadcasts go in a topology, whose spanning tree its positions are. Contracts see the entries.
+/// The broadcasts of a topology whose positions are its spanning tree. Contracts see the entries.
 #[derive(Drop)]
 pub struct Flood<'a> {
     graph: &'a Graph,
@@ -71,7 +71,12 @@ impl<'a> Model for Flood<'a> {
 }
 
 impl<'a> Flood<'a> {
-    /// How broadcasts go in a graph, whose positions are the tree of shortest walks to the least life.
+    /// Prepares the broadcasts of `graph`.
+    ///
+    /// The caller must pass a graph whose positions are the tree of shortest walks to the lowest life.
+    ///
+    /// # Errors
+    /// `OutOfMemory` if an allocation fails.
     pub fn of(alloc: Global, graph: &'a Graph) -> Result<Flood<'a>, OutOfMemory>
         requires { IsTree graph.now }
         ensures { IfOk result (λ flood. flood ≡ graph.now) }
@@ -85,7 +90,9 @@ impl<'a> Flood<'a> {
         })
     }
 
-    /// The port of the parent link of a member, None exactly for the root. It takes no memory.
+    /// Returns the port of the parent link of `life`, or `None` if and only if it is the root.
+    ///
+    /// The caller must pass a member. It does not allocate.
     pub fn parent_port(&self, life: Life) -> Option<u8>
         requires { Any (λ e. e.life ≡ life) self.now }
         ensures none { IsNone result ↔ (life ≡ life_at self.now 0) }
@@ -96,7 +103,9 @@ impl<'a> Flood<'a> {
         if port == 0 { None } else { Some(port) }
     }
 
-    /// The ports of the tree links from a member to its children, rising. It takes no memory.
+    /// Returns the ports of the tree links from `life` to its children, in ascending order.
+    ///
+    /// The caller must pass a member. It does not allocate.
     pub fn child_ports(&self, life: Life) -> &[u8]
         requires { Any (λ e. e.life ≡ life) self.now }
         ensures { AreChildPortsOf self.now life result.now }
@@ -127,8 +136,13 @@ impl<'a> Flood<'a> {
         Ok(hops)
     }
 
-    /// The hops of a broadcast from a member: those up to the root by parent links, and then those by
-    /// every tree link downward, by rising level of the member that sends, then by life, then by port.
+    /// Returns the hops of a broadcast from the member `from`.
+    ///
+    /// First come the hops up to the root by parent links, then the hops by every tree link downward, in
+    /// ascending order of the sender's level, then of its life, then of port. The caller must pass a member.
+    ///
+    /// # Errors
+    /// `OutOfMemory` if an allocation fails.
     pub fn hops(&self, alloc: Global, from: Life) -> Result<Vec<FloodHop>, OutOfMemory>
         requires { Any (λ e. e.life ≡ from) self.now }
         ensures { IfOk result (λ hops. IsBroadcast self.now from hops.items) }

@@ -8,12 +8,12 @@ use Rattle.std.proofs.lemmas.List.Elements.{All-cons, All-nil, Contains-get_or}
 use Rattle.std.proofs.lemmas.List.Folds.{Any-from_list_any, list_any-from_Any}
 use Rattle.an_base.specs.Values.{EntryOf}
 use Rattle.an_base.specs.Rows.{RowOf}
-use Rattle.an_base.proofs.MemberLemmas.{Contains-cons_cases}
-use Rattle.an_base.proofs.PigeonLemmas.{pigeons}
+use Rattle.common_values.proofs.MemberLemmas.{Contains-cons_cases}
+use Rattle.common_values.proofs.PigeonLemmas.{pigeons}
 use Rattle.topo_graph.specs.Topology.{IsGraph}
 use Rattle.dep_check.specs.declared.channel.Channel.{Channel}
 use Rattle.dep_check.specs.Channels.{HasExit, IsChannel, LeadsTo, far_at, place_in}
-use Rattle.channel_graph.specs.Cycles.{HasNoCycle, Path, Walk}
+use Rattle.common_graph.specs.Cycles.{HasNoCycle, Path, Walk}
 use Rattle.dep_check.specs.Laws.{GoesBetween}
 use Rattle.dep_check.specs.Packets.{AllAreJoined, GoesOn, IsGap}
 use Rattle.dep_check.proofs.BridgeLemmas.{place_contained}

@@ -4,8 +4,8 @@ use Rattle.std.proofs.lemmas.Bool.{eqb-true, eqb-false}
 use Rattle.std.proofs.lemmas.List.{length-map}
 use Rattle.std.proofs.lemmas.List.Elements.{All-map}
 use Rattle.std.proofs.lemmas.List.Quantifiers.{position-Some}
-use Rattle.text_lines.proofs.LineLemmas.{position_none}
-use Rattle.an_base.proofs.PairLemmas.{AllPairs-map}
+use Rattle.common_lines.proofs.LineLemmas.{position_none}
+use Rattle.common_values.proofs.PairLemmas.{AllPairs-map}
 use Rattle.an_base.proofs.LifeLemmas.{below_same}
 use Rattle.std.specs.Option.{option_map}
 use Rattle.an_base.specs.Values.{LifeId, EntryOf}

@@ -17,19 +17,19 @@ use Rattle.an_base.proofs.OrderLaws.{both_least}
 use Rattle.net_graph.specs.Wires.{Wires, IsWired, network}
 use Rattle.net_graph.specs.Forest.{IsMember, IsComponent, RootsBelow}
 use Rattle.an_base.proofs.LifeLemmas.{below_same}
-use Rattle.an_base.proofs.ListLemmas.{Any-later, Any-cons_cases, Any-weaker, Any-map}
-use Rattle.an_base.proofs.PairLemmas.{AllPairs-map, AllPairs-append}
-use Rattle.an_base.proofs.FlatMapLemmas.{Any-flat_map, AllPairs-flat_map}
+use Rattle.common_values.proofs.ListLemmas.{Any-later, Any-cons_cases, Any-weaker, Any-map}
+use Rattle.common_values.proofs.PairLemmas.{AllPairs-map, AllPairs-append}
+use Rattle.common_values.proofs.FlatMapLemmas.{Any-flat_map, AllPairs-flat_map}
 use Rattle.table_script.specs.declared.table_draft.NumberAt.{NumberAt}
 use Rattle.table_script.specs.declared.table_draft.EntryAt.{EntryAt}
-use Rattle.text_lines.specs.Words.{number_value}
+use Rattle.common_lines.specs.Words.{number_value}
 use Rattle.net_script.specs.Rules.{place}
 use Rattle.net_script.specs.Scripts.{ScriptOf, IsScript}
 use Rattle.table_script.specs.Tables.{are_joined}
 use Rattle.row_text.specs.TableForms.{TableForm, ComponentLine, MemberLine, NumberLine, RowLine, EndLine}
 use Rattle.table_script.specs.TableRules.{AreNumbersApart}
 use Rattle.table_script.proofs.JoinedLemmas.{joined_self, joined_back, joined_on, walk_joined}
-use Rattle.text_lines.proofs.SpellLemmas.{decimal_value}
+use Rattle.common_lines.proofs.SpellLemmas.{decimal_value}
 use Rattle.table_script.proofs.WalkJoined.{joined_by_walks}
 use Rattle.topo_graph.specs.Topology.{nothing, life_at}
 use Rattle.switch_numbering.specs.Numbering.{numbering}

@@ -6,21 +6,21 @@ use Rattle.std.proofs.lemmas.List.Folds.{list_any_none, list_any-from_Any}
 use Rattle.std.proofs.lemmas.List.FromFn.{get_or-range_with_len, length-range_with_len}
 use Rattle.an_base.specs.Rows.{RowOf}
 use Rattle.net_script.specs.declared.cause.ScriptCause.TheVariants.{BadNumber, TablesShort, LineTooLong, NotAscii}
-use Rattle.text_lines.specs.Faults.{unless}
+use Rattle.common_lines.specs.Faults.{unless}
 use Rattle.table_script.specs.declared.table_draft.NumberAt.{NumberAt}
 use Rattle.table_script.specs.declared.table_draft.EntryAt.{EntryAt}
 use Rattle.net_script.specs.Rules.{place, known_cause}
-use Rattle.text_lines.specs.Words.{number_value}
+use Rattle.common_lines.specs.Words.{number_value}
 use Rattle.net_script.specs.Scripts.{ScriptOf}
-use Rattle.text_lines.specs.Chains.{LeadsBy}
+use Rattle.common_lines.specs.Chains.{LeadsBy}
 use Rattle.table_script.specs.Tables.{are_joined}
 use Rattle.row_text.specs.TableForms.{TableForm, ComponentLine, MemberLine, NumberLine, RowLine, EndLine, table_words}
 use Rattle.table_script.specs.TableDrafts.{TableDraftOf, no_tables}
 use Rattle.table_script.specs.TableRules.{row_of, entry_cause, are_pairs, is_numbered, is_number_taken, is_entered, are_numbered, row_line_cause, table_cause, with_table_form, AreNumbersApart}
 use Rattle.table_script.specs.TableTexts.{AddsTableWords, AddsTable}
 use Rattle.table_script.proofs.TableLaws.{AddsTableRow}
-use Rattle.text_lines.proofs.SpellLemmas.{line_good, line_words, test_from_all}
-use Rattle.text_lines.proofs.SpellLemmas.{fixed_word, words_cons, words_nil}
+use Rattle.common_lines.proofs.SpellLemmas.{line_good, line_words, test_from_all}
+use Rattle.common_lines.proofs.SpellLemmas.{fixed_word, words_cons, words_nil}
 use Rattle.table_script.proofs.NumberLineLemmas.{number_new}
 use Rattle.check_text.proofs.OwnForms.{numbers_in, entries_in, rows_in, drafted, IsPlain, IsPrintedForm, AreEntriesApart, AreWhole}
 

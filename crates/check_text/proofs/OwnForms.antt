@@ -5,13 +5,14 @@ use Rattle.an_base.specs.Rows.{RowOf}
 use Rattle.net_graph.specs.Forest.{IsForest}
 use Rattle.table_script.specs.declared.table_draft.NumberAt.{NumberAt}
 use Rattle.table_script.specs.declared.table_draft.EntryAt.{EntryAt}
-use Rattle.text_lines.specs.Words.{number_value, is_number_in, IsName}
+use Rattle.common_lines.specs.Words.{number_value, is_number_in}
+use Rattle.net_names.specs.Words.{IsName}
 use Rattle.net_script.specs.Rules.{place, known_cause}
 use Rattle.net_script.specs.Scripts.{ScriptOf, IsScript}
 use Rattle.row_text.specs.TableForms.{TableForm, ComponentLine, MemberLine, NumberLine, RowLine, EndLine, table_words}
 use Rattle.table_script.specs.TableDrafts.{TableDraftOf}
 use Rattle.table_script.specs.TableRules.{row_of, entry_cause, are_pairs, AreNumbersApart}
-use Rattle.text_lines.proofs.SpellLemmas.{IsWord}
+use Rattle.common_lines.proofs.SpellLemmas.{IsWord}
 use Rattle.row_text.specs.Names.{life_text}
 use Rattle.expect_text.specs.Expect.{Part, AreTables}
 

@@ -7,9 +7,9 @@ use Rattle.row_text.specs.TableForms.{TableForm, EndLine, table_words}
 use Rattle.table_script.specs.TableRules.{tables_of}
 use Rattle.table_script.specs.TableTexts.{IsTextWith}
 use Rattle.net_script.specs.Texts.{IsText}
-use Rattle.text_lines.proofs.SpellLemmas.{fixed_word, words_cons, words_nil}
+use Rattle.common_lines.proofs.SpellLemmas.{fixed_word, words_cons, words_nil}
 use Rattle.net_script.proofs.ScriptKept.{text_kept}
-use Rattle.text_lines.proofs.SpellLemmas.{IsWord}
+use Rattle.common_lines.proofs.SpellLemmas.{IsWord}
 use Rattle.check_text.specs.Check.{IsJudged}
 use Rattle.expect_text.specs.Expect.{expect_text, IsExpectOf, Part}
 use Rattle.check_text.proofs.OwnForms.{AreParts, AreWhole, IsPrintedForm, drafted}

@@ -20,26 +20,27 @@ use Rattle.an_base.specs.Values.{EntryOf, LifeId}
 use Rattle.an_base.specs.Numbers.{AreNumbers}
 use Rattle.an_base.specs.Tree.{Network, IsDistance, IsClosed}
 use Rattle.an_base.proofs.PlaceLaws.{one_level}
-use Rattle.an_base.proofs.ListLemmas.{AllPairs-head, AllPairs-tail}
+use Rattle.common_values.proofs.ListLemmas.{AllPairs-head, AllPairs-tail}
 use Rattle.net_graph.specs.Wires.{network}
 use Rattle.net_graph.specs.Forest.{IsComponent, IsMember}
 use Rattle.net_graph.proofs.FarLemmas.{far_is, network_closed}
-use Rattle.text_lines.specs.Words.{is_number, is_number_in, number_value}
+use Rattle.common_lines.specs.Words.{is_number, is_number_in, number_value}
 use Rattle.table_script.specs.TableRules.{is_colon, port_words, are_ports, rise_above, is_pair, are_pairs, pair_number, pair_exits, row_of, entry_cause}
-use Rattle.text_lines.specs.Faults.{unless}
+use Rattle.common_lines.specs.Faults.{unless}
 use Rattle.net_script.specs.Scripts.{ScriptOf, IsScript}
 use Rattle.row_text.specs.TableForms.{TableForm}
 use Rattle.net_script.specs.declared.cause.ScriptCause.TheVariants.{BadNumber, PortRange}
-use Rattle.text_lines.proofs.SpellLemmas.{IsPrinted, IsWord, decimal_word, decimal_value, decimal_number, name_word}
-use Rattle.text_lines.proofs.WordLemmas.{own}
-use Rattle.text_lines.proofs.SpellLemmas.{fixed_word, words_cons, words_nil}
-use Rattle.text_lines.proofs.FaultLemmas.{unless_good, first_good}
+use Rattle.common_lines.proofs.SpellLemmas.{IsPrinted, IsWord, decimal_word, decimal_value, decimal_number}
+use Rattle.net_names.proofs.WordLemmas.{name_word}
+use Rattle.common_lines.proofs.WordLemmas.{own}
+use Rattle.common_lines.proofs.SpellLemmas.{fixed_word, words_cons, words_nil}
+use Rattle.common_lines.proofs.FaultLemmas.{unless_good, first_good}
 use Rattle.switch_numbering.specs.Numbering.{numbering}
 use Rattle.topo_graph.specs.Topology.{IsGraph, nothing, entry_at, life_at}
 use Rattle.table_build.specs.Exits.{LeadsTo, Begins, may_go_up, is_entry}
 use Rattle.table_build.specs.Tables.{TableOf, IsTable, IsRow, IsBefore}
-use Rattle.an_base.proofs.PairLemmas.{AllPairs-map}
-use Rattle.an_base.proofs.PigeonLemmas.{pigeons}
+use Rattle.common_values.proofs.PairLemmas.{AllPairs-map}
+use Rattle.common_values.proofs.PigeonLemmas.{pigeons}
 use Rattle.row_text.specs.Rows.{exits_text, slashed, rows_at}
 use Rattle.check_text.proofs.OwnForms.{IsPlain, IsPrintedForm, AreParts, IsNamed}
 use Rattle.expect_text.specs.Expect.{parent_words, component_form, member_form, number_form, part_forms, expect_forms}
@@ -50,7 +51,7 @@ use Rattle.switch_numbering.proofs.Differing.{length-numbering}
 use Rattle.check_text.proofs.OwnNames.{life_named}
 use Rattle.row_text.proofs.ComponentTree.{component_tree}
 use Rattle.expect_text.proofs.PartLemmas.{component_numbering}
-use Rattle.an_base.proofs.FlatMapLemmas.{All-flat_map}
+use Rattle.common_values.proofs.FlatMapLemmas.{All-flat_map}
 
 -- THE TEXT OF A PAIR
 

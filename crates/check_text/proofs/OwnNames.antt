@@ -2,8 +2,8 @@ use Rattle.std.proofs.Common.{◌≡◌, ◌≢◌, ◌∙◌, ap, refl, ℕ, �
 use Rattle.std.proofs.lemmas.List.Elements.{All-get_or}
 use Rattle.an_base.specs.Values.{LifeId}
 use Rattle.net_graph.specs.Wires.{uid_of, network}
-use Rattle.an_base.proofs.PairLemmas.{AllPairs-front}
-use Rattle.text_lines.specs.Words.{IsName}
+use Rattle.common_values.proofs.PairLemmas.{AllPairs-front}
+use Rattle.net_names.specs.Words.{IsName}
 use Rattle.net_script.specs.Scripts.{ScriptOf, IsScript}
 use Rattle.script_text.proofs.GoodLemmas.{known_good, place_is}
 use Rattle.check_text.proofs.ComponentLemmas.{uid_found}

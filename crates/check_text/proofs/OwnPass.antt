@@ -21,9 +21,9 @@ use Rattle.net_graph.proofs.CollectLemmas.{uid_one}
 use Rattle.net_graph.proofs.FarLemmas.{far_back}
 use Rattle.net_graph.proofs.WalkLemmas.{walk_back}
 use Rattle.net_graph.proofs.OneForest.{one_component, one_forest_of}
-use Rattle.an_base.proofs.MemberLemmas.{Contains-here, Contains-later, Contains-cons_cases, Contains-map, Any-from_map}
-use Rattle.an_base.proofs.FlatMapLemmas.{All-flat_map}
-use Rattle.an_base.proofs.ListLemmas.{AllPairs-head, AllPairs-tail, Any-map}
+use Rattle.common_values.proofs.MemberLemmas.{Contains-here, Contains-later, Contains-cons_cases, Contains-map, Any-from_map}
+use Rattle.common_values.proofs.FlatMapLemmas.{All-flat_map}
+use Rattle.common_values.proofs.ListLemmas.{AllPairs-head, AllPairs-tail, Any-map}
 use Rattle.net_graph.specs.declared.wiring.SwitchAt.{SwitchAt}
 use Rattle.table_script.specs.declared.table_draft.NumberAt.{NumberAt}
 use Rattle.net_script.specs.Rules.{place}
@@ -32,8 +32,8 @@ use Rattle.table_script.specs.Tables.{TablesOf}
 use Rattle.table_script.specs.TableDrafts.{TableDraftOf}
 use Rattle.row_text.specs.TableForms.{TableForm, ComponentLine, MemberLine, NumberLine, RowLine, EndLine}
 use Rattle.table_script.specs.TableRules.{row_of, tables_of, AreNumbersApart, number_of as drafted_number}
-use Rattle.text_lines.specs.Words.{number_value}
-use Rattle.text_lines.proofs.SpellLemmas.{decimal_value}
+use Rattle.common_lines.specs.Words.{number_value}
+use Rattle.common_lines.proofs.SpellLemmas.{decimal_value}
 use Rattle.topo_graph.specs.Topology.{IsGraph, IsTree, nothing, entry_at, life_at}
 use Rattle.switch_numbering.specs.Numbering.{numbering}
 use Rattle.table_build.specs.Exits.{is_entry}
@@ -56,9 +56,9 @@ use Rattle.expect_text.specs.Expect.{component_form, member_form, number_form, p
 use Rattle.row_text.specs.Rows.{pair_word, row_form, member_rows, table_forms}
 use Rattle.check_text.proofs.OwnApart.{own_numbers}
 use Rattle.check_text.proofs.OwnLines.{pair_says}
-use Rattle.channel_graph.proofs.OneAnswer.{no_both}
+use Rattle.common_graph.proofs.OneAnswer.{no_both}
 use Rattle.table_build.proofs.MadeTables.{entry_passes, entry_low}
-use Rattle.an_base.proofs.RangeLemmas.{Contains-kept}
+use Rattle.common_values.proofs.RangeLemmas.{Contains-kept}
 use Rattle.table_build.proofs.MadeLists.{in_flat}
 
 -- LISTS

@@ -6,9 +6,9 @@ use Rattle.net_script.specs.declared.cause.ScriptCause.TheVariants.{NotAscii, Li
 use Rattle.net_script.specs.declared.draft.Draft.{Draft}
 use Rattle.net_script.specs.declared.draft.Part.{Part}
 use Rattle.net_script.specs.declared.draft.Part.TheVariants.{Header, Items, After}
-use Rattle.text_lines.specs.Lines.{lines_of, words_of, lines_text, is_line_byte}
-use Rattle.text_lines.specs.Faults.{unless}
-use Rattle.text_lines.specs.Chains.{LeadsBy}
+use Rattle.common_lines.specs.Lines.{lines_of, words_of, lines_text, is_line_byte}
+use Rattle.common_lines.specs.Faults.{unless}
+use Rattle.common_lines.specs.Chains.{LeadsBy}
 use Rattle.net_script.specs.Scripts.{ScriptOf}
 use Rattle.net_script.specs.Drafts.{start}
 use Rattle.net_script.specs.Texts.{AddsWords, Adds, Leads, bytes_cause, IsText}
@@ -17,9 +17,9 @@ use Rattle.table_script.specs.TableDrafts.{TableDraftOf, no_tables}
 use Rattle.table_script.specs.TableRules.{tables_of}
 use Rattle.table_script.specs.TableTexts.{AddsTable, Told, none_told, AddsToldIn, AddsTold, IsTextWith}
 use Rattle.table_script.proofs.TableLaws.{AddsTableRow}
-use Rattle.text_lines.proofs.FaultLemmas.{no_first, holds}
-use Rattle.text_lines.proofs.LineLemmas.{is_feed, first_of_parts, parts_some}
-use Rattle.text_lines.proofs.SpellLemmas.{IsWord, lines_of-text, no_line as none_of}
+use Rattle.common_lines.proofs.FaultLemmas.{no_first, holds}
+use Rattle.common_lines.proofs.LineLemmas.{is_feed, first_of_parts, parts_some}
+use Rattle.common_lines.proofs.SpellLemmas.{IsWord, lines_of-text, no_line as none_of}
 
 -- a byte put before the first of some parts
 onto_append : (x : ℕ) (parts more : List (List ℕ)) → 0 < length parts → onto_first x (parts ++ more) ≡ onto_first x parts ++ more

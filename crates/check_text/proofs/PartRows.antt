@@ -8,7 +8,7 @@ use Rattle.table_build.specs.Tables.{TableOf, IsTable, IsRow}
 use Rattle.dep_check.specs.Laws.{AreTables as AllTables}
 use Rattle.net_script.specs.Scripts.{ScriptOf}
 use Rattle.expect_text.specs.Expect.{Part, table_at, all_rows}
-use Rattle.an_base.proofs.FlatMapLemmas.{All-flat_map, Any-flat_map}
+use Rattle.common_values.proofs.FlatMapLemmas.{All-flat_map, Any-flat_map}
 use Rattle.expect_text.proofs.PartLemmas.{IsPart}
 
 -- the rows of the tables of all members, in one list

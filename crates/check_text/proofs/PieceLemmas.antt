@@ -1,7 +1,7 @@
 use Rattle.std.proofs.Common.{◌≡◌, ◌∙◌, sym, ap, ℕ, ◌+◌, List, ◌++◌, append_assoc}
 use Rattle.std.specs.List.{flat_map, range_with_len}
 use Rattle.std.proofs.lemmas.List.{flat_map_more}
-use Rattle.an_base.proofs.ListLemmas.{places_more}
+use Rattle.common_values.proofs.ListLemmas.{places_more}
 
 -- the text of one number more
 pub numbers_next : (f : ℕ → List ℕ) (base text new : List ℕ) (n : ℕ) → text ≡ base ++ flat_map f (range_with_len 0 n) → new ≡ text ++ f n → new ≡ base ++ flat_map f (range_with_len 0 (n + 1))

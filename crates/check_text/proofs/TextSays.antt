@@ -6,13 +6,13 @@ use Rattle.std.proofs.lemmas.Bool.Decides.{nat_tests}
 use Rattle.std.proofs.lemmas.List.Elements.{All-weaker}
 use Rattle.std.proofs.lemmas.List.Splits.{slice_split_at}
 use Rattle.std.proofs.lemmas.List.Sums.{AllPass-from_list_all}
-use Rattle.text_lines.specs.Lines.{lines_of, words_of, is_line_byte}
-use Rattle.text_lines.specs.Chains.{LeadsBy}
-use Rattle.text_lines.specs.Faults.{unless}
-use Rattle.text_lines.proofs.ChainLaws.{LeadsBy-push}
-use Rattle.text_lines.proofs.FaultLemmas.{no_first, holds}
-use Rattle.text_lines.proofs.LineLemmas.{is_feed, first_of_parts, parts_some}
-use Rattle.text_lines.proofs.SpellLemmas.{no_line}
+use Rattle.common_lines.specs.Lines.{lines_of, words_of, is_line_byte}
+use Rattle.common_lines.specs.Chains.{LeadsBy}
+use Rattle.common_lines.specs.Faults.{unless}
+use Rattle.common_lines.proofs.ChainLaws.{LeadsBy-push}
+use Rattle.common_lines.proofs.FaultLemmas.{no_first, holds}
+use Rattle.common_lines.proofs.LineLemmas.{is_feed, first_of_parts, parts_some}
+use Rattle.common_lines.proofs.SpellLemmas.{no_line}
 use Rattle.net_script.specs.declared.cause.ScriptCause.TheVariants.{NotAscii, LineTooLong}
 use Rattle.net_script.specs.declared.draft.Draft.{Draft}
 use Rattle.net_script.specs.declared.draft.Part.{Part}

@@ -1,4 +1,4 @@
-//! The judgement of tables, and its text.
+//! Judges routing tables, and prints the judgement.
 
 ghost use Rattle.std.specs.Prelude.{◌≡◌, ◌≢◌, ◌==◌, ◌++◌, [], ◌∷◌, length, map, filter, ℕ, IfOk, OnOk};
 ghost use Rattle.std.specs.List.{list_all, list_any};
@@ -14,10 +14,10 @@ ghost use Rattle.check_text.specs.Runs.{AreRuns, IsRun};
 
 use crate::runs::runs_of;
 use an_base::entry::{Entries, Entry};
-use an_base::memory::OutOfMemory;
 use an_base::numbers::Numbers;
 use an_base::row::Row;
-use an_base::text::push_decimal;
+use common_values::memory::OutOfMemory;
+use common_values::text::push_decimal;
 use dep_check::channel::{Channel, Channels};
 use dep_check::check::{Ranks, check};
 use dep_check::refusal::CheckRefusal;
@@ -29,16 +29,16 @@ use std::alloc::{AllocError, Global};
 use table_script::tables::Tables;
 use topo_graph::graph::Graph;
 
-/// What comes of checking the routing tables of a network.
+/// The result of checking the routing tables of a network.
 #[derive(Drop)]
 pub struct Judgement {
     /// Whether the tables of each component pass.
     pub passed: bool,
-    /// The ranks of all channels and `ok`; or the one line of what is refused first.
+    /// The ranks of all channels and `ok`; or the one line of why the first rejected component is rejected.
     pub text: Vec<u8>,
 }
 
-// The number of a member, if these are the numbers of all switches.
+// The number of a member, where `numbers` has those of all switches.
 fn number_of(switches: &[SwitchAt], numbers: &[u8], entry: &Entry) -> u8
     ensures { result ≡ number_of switches.now numbers.now entry.now }
 {
@@ -63,14 +63,14 @@ fn numbers_of(
         .collect(alloc)
 }
 
-// Whether a switch is a member.
+// Reports whether the switch with identifier `uid` is a member.
 fn is_member(entries: &[Entry], uid: u64) -> bool
     ensures { result ≡ list_any (λ e. e.life.uid == uid) entries.now }
 {
     entries.iter().any(|e| e.life.uid == uid)
 }
 
-// For each switch, whether it is a member.
+// Reports for each switch whether it is a member.
 fn members_of(
     alloc: Global,
     switches: &[SwitchAt],
@@ -110,14 +110,14 @@ fn push_run(rows: &mut Vec<Row>, tables: &Tables, run: &[Row]) -> Result<(), All
     Ok(())
 }
 
-// Whether a row is a member's, if this says of each switch whether it is a member.
+// Reports whether a row belongs to a member, where `members` says of each switch whether it is one.
 fn is_row_of(members: &[bool], row: &Row) -> bool
     ensures { result ≡ is_row_of members.now row.now }
 {
     members.get(usize::from(row.at)).copied().unwrap_or(false)
 }
 
-// The rows of a run that are a member's: all or none.
+// The rows of a run that belong to a member: all or none.
 fn kept<'a>(members: &[bool], run: &'a [Row]) -> &'a [Row]
     requires { IsRun run.now }
     ensures { result.now ≡ filter (is_row_of members.now) run.now }
@@ -128,8 +128,8 @@ fn kept<'a>(members: &[bool], run: &'a [Row]) -> &'a [Row]
     if is_row_of(members, row) { run } else { &[] }
 }
 
-// The rows of the members, in which each stands as its number, if these are the runs of all rows. It
-// passes over the runs of other switches.
+// The rows of the members, with the switch's number in each, where `runs` are those of all rows. It ignores the
+// runs of other switches without reading them.
 fn rows_of(
     alloc: Global,
     switches: &[SwitchAt],
@@ -148,10 +148,10 @@ fn rows_of(
     Ok(rows)
 }
 
-// What comes of appending to a text: nothing, or want of memory.
+// The result of appending to a text.
 type Appended = Result<(), AllocError>;
 
-// What the names of switches come from, within one component, and the memory that printing takes.
+// What is needed to print the names of the switches of a component.
 #[derive(Clone, Copy, Drop)]
 struct Naming<'a> {
     alloc: Global,
@@ -215,7 +215,7 @@ impl Naming<'_> {
         }
     }
 
-    // Appends the ranks of the channels of the switch that has a number, by rising port.
+    // Appends the ranks of the channels of the switch that has a number, in ascending order of port.
     fn push_ranks_at(&self, text: &mut Vec<u8>, ranks: &Ranks, number: u8) -> Appended
         ensures { OnOk result (text.new.items ≡ text.old.items
             ++ number_ranks self.now.script.now self.now.entries.now self.now.numbers.now ranks.now number) }
@@ -226,7 +226,7 @@ impl Naming<'_> {
         Ok(())
     }
 
-    // Appends the ranks of all channels, by rising number.
+    // Appends the ranks of all channels, in ascending order of number.
     #[tactic(auto, unfolding(crate::specs::Check::ranks_text))]
     fn push_ranks(&self, text: &mut Vec<u8>, ranks: &Ranks) -> Appended
         ensures { OnOk result (text.new.items ≡ text.old.items
@@ -267,7 +267,7 @@ impl Naming<'_> {
         Ok(())
     }
 
-    // Appends the place of an entry.
+    // Appends the switch and the ingress port of an entry.
     fn push_entry(&self, text: &mut Vec<u8>, at: u8, entry: u8) -> Appended
         ensures { OnOk result (text.new.items ≡ text.old.items
             ++ entry_text self.now.script.now self.now.entries.now self.now.numbers.now at entry) }
@@ -293,7 +293,7 @@ impl Naming<'_> {
         Ok(())
     }
 
-    // Appends the line of what is refused.
+    // Appends the line of why the tables are rejected.
     #[tactic(auto, unfolding(crate::specs::Check::refusal_line))]
     fn push_refusal(&self, text: &mut Vec<u8>, refusal: &CheckRefusal) -> Result<(), OutOfMemory>
         ensures line { OnOk result (text.new.items ≡ text.old.items
@@ -337,8 +337,8 @@ fn component_numbers(
     Ok(Numbers::new(numbers_of(alloc, switches, tables, entries)?))
 }
 
-// Judges the rows of a component with these numbers: appends its ranks if they pass, and sets the text to
-// the line of what is refused if they do not. Answers whether they pass.
+// Judges the rows of a component with these numbers, and returns whether they pass. If they do, it appends their
+// ranks; otherwise it replaces the text by the line of why they are rejected.
 fn judge_rows(
     alloc: Global,
     text: &mut Vec<u8>,
@@ -392,7 +392,7 @@ fn judge_component(
     judge_rows(alloc, text, script, component, &numbers, &rows)
 }
 
-// Judges the rows of the components, until some are refused, into a text without bytes. Answers whether all
+// Judges the rows of one component after another into an empty text, until some are rejected. Returns whether all
 // pass.
 fn judge_all(
     alloc: Global,
@@ -416,14 +416,14 @@ fn judge_all(
     Ok(true)
 }
 
-// Whether all rows are those of members.
+// Reports whether all rows belong to members.
 fn are_rows_of(members: &[bool], rows: &[Row]) -> bool
     ensures { result ≡ list_all (is_row_of members.now) rows.now }
 {
     rows.iter().all(|row| is_row_of(members, row))
 }
 
-// Whether all rows are those of members of a component.
+// Reports whether all rows belong to members of a component.
 fn has_all(
     alloc: Global,
     switches: &[SwitchAt],
@@ -437,7 +437,7 @@ fn has_all(
     Ok(are_rows_of(&members, tables.rows()))
 }
 
-// The rows of a component, in which each stands as its number, copied.
+// Copies of the rows of a component, with the switch's number in each.
 fn copied_rows(
     alloc: Global,
     switches: &[SwitchAt],
@@ -450,7 +450,7 @@ fn copied_rows(
     rows_of(alloc, switches, tables, &runs, entries)
 }
 
-// The same rows. If all are those of the component, none is copied.
+// The rows of a component, with the switch's number in each. If the component has all rows, none is copied.
 fn taken_rows(
     alloc: Global,
     script: &Script,
@@ -468,7 +468,7 @@ fn taken_rows(
     copied_rows(alloc, switches, &tables, entries)
 }
 
-// Judges the rows of a network of one component into a text without bytes. Answers whether they pass.
+// Judges the rows of a network of one component into an empty text. Returns whether they pass.
 fn judge_only(
     alloc: Global,
     text: &mut Vec<u8>,
@@ -490,7 +490,7 @@ fn judge_only(
     Ok(true)
 }
 
-// Judges the tables of a network into a text without bytes. Answers whether they pass.
+// Judges the tables of a network into an empty text. Returns whether they pass.
 fn judge_into(
     alloc: Global,
     text: &mut Vec<u8>,
@@ -508,9 +508,14 @@ fn judge_into(
     judge_all(alloc, text, script, &tables, &forest)
 }
 
-/// Checks the tables of a network, those of one component after another by rising root. If all pass
-/// the text has the rank of each channel of each component, by rising number and then by rising port,
-/// and `ok`; else it has the one line that says why those of the first refused component are.
+/// Checks the tables of a network, component by component in ascending order of root.
+///
+/// If all pass, the text has the rank of each channel of each component, in ascending order of number
+/// and then of port, and `ok`. Otherwise it has the one line of why the tables of the first rejected
+/// component are rejected. The caller must pass tables that belong to the script's network.
+///
+/// # Errors
+/// `OutOfMemory` if an allocation fails.
 pub fn judge(alloc: Global, script: &Script, tables: Tables) -> Result<Judgement, OutOfMemory>
     requires { AreTablesOf script.now.wires tables }
     ensures { IfOk result (λ j. IsJudged script.now tables j.passed j.text.items) }

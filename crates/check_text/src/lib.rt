@@ -1,11 +1,11 @@
-//! The text of `check`: the judgement of routing tables that stand after a script.
+//! autonet, table texts: output of `check`.
 //!
-//! It stands on scripts with tables, on the judgement of the tables of a component, and, for its laws, on the text
-//! of what is expected.
+//! It judges the routing tables that follow a script: whether those of each component pass.
 //!
-//! Its contract: if the tables of each component pass the text has the ranks of all channels, and else the
-//! line of why those of the first that is refused are; tables have one judgement; what passes is a topology for
-//! the laws on rows; and what is expected of a script, after its text, is never refused.
+//! It depends on the reader of tables, on the check of a component's tables and, for its theorems, on the output of
+//! `expect`. Its contract: if the tables of each component pass, the text has the ranks of all channels, and
+//! otherwise the line of why those of the first rejected component are rejected. Tables have only one judgement;
+//! tables that pass are those of a topology; and those that `expect` prints are never rejected.
 #![tactic(auto)]
 
 pub mod check;

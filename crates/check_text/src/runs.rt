@@ -1,4 +1,4 @@
-//! Rows that follow each other, in runs of one switch.
+//! Runs of consecutive rows of one switch.
 
 ghost use Rattle.std.specs.Prelude.{◌<◌, ◌≤◌, length, map, take, IfOk};
 ghost use Rattle.check_text.specs.Runs.{AreRuns, IsRun};
@@ -6,7 +6,7 @@ ghost use Rattle.check_text.specs.Runs.{AreRuns, IsRun};
 use an_base::row::Row;
 use std::alloc::{AllocError, Global};
 
-// How many of the first rows are of one switch.
+// The number of rows at the front that belong to one switch.
 fn run_len(rows: &[Row]) -> usize
     requires { 0 < length rows.now }
     ensures some { 0 < result }
@@ -25,7 +25,7 @@ fn run_len(rows: &[Row]) -> usize
     len
 }
 
-// The runs of rows. It looks once at each row.
+// The runs of rows. It reads each row once.
 pub(crate) fn runs_of(alloc: Global, rows: &[Row]) -> Result<Vec<&[Row]>, AllocError>
     ensures { IfOk result (λ runs. AreRuns rows.now (map (λ run. run.now) runs.items)) }
 {

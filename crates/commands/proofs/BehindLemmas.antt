@@ -7,9 +7,9 @@ use Rattle.std.proofs.lemmas.Bool.{and_parts}
 use Rattle.std.proofs.lemmas.Bool.Decides.{nat_tests}
 use Rattle.std.proofs.lemmas.List.Elements.{All-cons, All-head, All-map, All-tail, All-weaker}
 use Rattle.an_base.specs.declared.event.Event.{Event}
-use Rattle.text_lines.specs.Lines.{lines_of, line_text, with_words, words_of}
-use Rattle.text_lines.proofs.ChoiceLemmas.{word_is}
-use Rattle.text_lines.proofs.SpellLemmas.{IsWord, fixed_word, line_bytes, line_words, lines_of-line, words_cons, words_nil}
+use Rattle.common_lines.specs.Lines.{lines_of, line_text, with_words, words_of}
+use Rattle.common_lines.proofs.ChoiceLemmas.{word_is}
+use Rattle.common_lines.proofs.SpellLemmas.{IsWord, fixed_word, line_bytes, line_words, lines_of-line, words_cons, words_nil}
 use Rattle.net_script.specs.Forms.{Form, End, form_words, header_words}
 use Rattle.net_script.specs.Scripts.{ScriptOf}
 use Rattle.net_script.specs.Texts.{IsText}
@@ -17,17 +17,17 @@ use Rattle.net_script.proofs.FormOf.{one_form}
 use Rattle.net_script.proofs.TextFormLemmas.{text_is_forms}
 use Rattle.journal.specs.Events.{events_text, first_words, journal_text, last_words}
 use Rattle.journal.specs.Texts.{IsJournal}
-use Rattle.fabric_world.specs.World.{world_after}
+use Rattle.net_world.specs.World.{world_after}
 use Rattle.replay.specs.Division.{after_end, from_words, has_words, is_end_line}
 use Rattle.check_text.proofs.OwnTold.{lines_on}
-use Rattle.answering.specs.declared.status.Status.{Status}
-use Rattle.answering.specs.Answer.{Streams, IsAnswer, input_limit, refuses_nothing}
+use Rattle.autonet_call.specs.declared.status.Status.{Status}
+use Rattle.autonet_call.specs.Answer.{Streams, IsAnswer, input_limit, refuses_nothing}
 use Rattle.commands.specs.Complete.{gives_report_of, gives_text}
 use Rattle.commands.specs.Replay.{IsScriptWith}
 use Rattle.commands.specs.Reported.{IsReported, status_of_end}
 use Rattle.commands.specs.Run.{IsRun}
 use Rattle.commands.specs.Words.{IsReplayAnswer}
-use Rattle.answering.proofs.AllToldLemmas.{answered_as}
+use Rattle.autonet_call.proofs.AllToldLemmas.{answered_as}
 use Rattle.commands.proofs.CompleteLemmas.{legal_is_replayed}
 
 -- THE LINES OF A SCRIPT

@@ -5,10 +5,10 @@ use Rattle.std.specs.Str.Lines.{lines_of_parts, strip_carriage_return}
 use Rattle.std.proofs.lemmas.Bool.Decides.{nat_tests}
 use Rattle.std.proofs.lemmas.List.Elements.{All-cons, All-weaker}
 use Rattle.std.proofs.lemmas.List.Splits.{slice_split_at}
-use Rattle.text_lines.specs.Grammar.{AddsRowBy}
-use Rattle.text_lines.specs.Lines.{is_line_byte, lines_of, lines_text, words_of}
-use Rattle.text_lines.proofs.LineLemmas.{is_feed, first_of_parts, parts_some}
-use Rattle.text_lines.proofs.SpellLemmas.{test_from_all}
+use Rattle.common_lines.specs.Grammar.{AddsRowBy}
+use Rattle.common_lines.specs.Lines.{is_line_byte, lines_of, lines_text, words_of}
+use Rattle.common_lines.proofs.LineLemmas.{is_feed, first_of_parts, parts_some}
+use Rattle.common_lines.proofs.SpellLemmas.{test_from_all}
 use Rattle.net_script.specs.declared.draft.Draft.{Draft}
 use Rattle.net_script.specs.Drafts.{start}
 use Rattle.net_script.specs.Forms.{form_words, header_words}

@@ -9,20 +9,20 @@ use Rattle.journal_cause.specs.declared.cause.JournalCause.{JournalCause}
 use Rattle.journal.specs.Texts.{IsJournal}
 use Rattle.journal.proofs.FaultLemmas.{no_fault as no_journal_fault}
 use Rattle.journal.proofs.JournalLemmas.{one_journal}
-use Rattle.fabric_state.specs.declared.ending.Ending.{Ending}
-use Rattle.fabric_world.specs.Histories.{IsLegal}
+use Rattle.net_state.specs.declared.ending.Ending.{Ending}
+use Rattle.net_world.specs.Histories.{IsLegal}
 use Rattle.replay.specs.Replays.{IsIllegal, IsNoReplay, no_journal, not_legal}
 use Rattle.replay.proofs.OneDivision.{one_division}
 use Rattle.report.specs.Beliefs.{AreNames}
-use Rattle.answering.specs.declared.status.Status.{Status}
-use Rattle.answering.specs.declared.status.Status.TheVariants.{Ok, Usage, ScriptRefused, ReadFault, WriteFault, TablesRefused, Unsettled, EpochsSpent, JournalRefused, JournalFull, OutOfMemory}
-use Rattle.answering.specs.Answer.{Streams, IsAnswer, input_limit, refuses_nothing}
+use Rattle.autonet_call.specs.declared.status.Status.{Status}
+use Rattle.autonet_call.specs.declared.status.Status.TheVariants.{Ok, Usage, ScriptRefused, ReadFault, WriteFault, TablesRefused, Unsettled, EpochsSpent, JournalRefused, JournalFull, OutOfMemory}
+use Rattle.autonet_call.specs.Answer.{Streams, IsAnswer, input_limit, refuses_nothing}
 use Rattle.commands.specs.Complete.{gives_names_of, gives_report_of}
 use Rattle.commands.specs.Names.{gives_names}
 use Rattle.commands.specs.Replay.{IfJournalRefused, IsJournaled, IsNoScript, IsScriptWith, IsUnreplayed, gives_replayed, refuses_journal}
 use Rattle.commands.specs.Reported.{IsReported}
 use Rattle.commands.specs.Words.{IsNamesAnswer, IsReplayAnswer}
-use Rattle.answering.proofs.AllToldLemmas.{answered_as, not_refused}
+use Rattle.autonet_call.proofs.AllToldLemmas.{answered_as, not_refused}
 use Rattle.commands.proofs.RunLemmas.{never_illegal}
 
 -- A SCRIPT AND A LEGAL JOURNAL

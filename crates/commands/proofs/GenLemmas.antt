@@ -1,7 +1,7 @@
 -- The words `gen SEED N`.
 use Rattle.std.proofs.Common.{◌≡◌, ◌≢◌, ◌∙◌, sym, ap, ℕ, ◌-◌, ◌^◌, List, [], ◌∷◌, true, false}
 use Rattle.std.specs.Prelude.{codes}
-use Rattle.text_lines.specs.Words.{is_number_in, number_value}
+use Rattle.common_lines.specs.Words.{is_number_in, number_value}
 use Rattle.commands.specs.Gen.{AreGenWords}
 
 second_of_three : (a x y u v : List ℕ) → a ∷ x ∷ u ∷ [] ≡ a ∷ y ∷ v ∷ [] → x ≡ y

@@ -4,18 +4,18 @@ use Rattle.an_base.specs.declared.event.Event.{Event}
 use Rattle.outside.specs.Told.{Gains}
 use Rattle.net_script.specs.Scripts.{ScriptOf, IsScript}
 use Rattle.net_script.proofs.ScriptKept.{text_kept}
-use Rattle.fabric_state.specs.declared.ending.Ending.{Ending}
-use Rattle.fabric_state.specs.declared.ending.Ending.TheVariants as ending
-use Rattle.fabric_world.specs.World.{world_after}
-use Rattle.fabric_settling.specs.Settling.{HasTime}
-use Rattle.fabric_settling.proofs.Whole.{ends_in_time}
-use Rattle.calling.specs.declared.input.Unread.{Unread}
-use Rattle.calling.specs.declared.input.Unread.TheVariants as no_input
-use Rattle.answering.specs.declared.status.Status.{Status}
-use Rattle.answering.specs.declared.status.Status.TheVariants.{Ok, Usage, ScriptRefused, ReadFault, WriteFault, TablesRefused, Unsettled, EpochsSpent, JournalRefused, JournalFull, OutOfMemory}
-use Rattle.answering.specs.Status.{code_of, line_of}
-use Rattle.answering.specs.Answer.{Gives, Refuses, Streams, IsAnswer, IsCause, IsGiven, IsStop, input_limit, given, cut, stopped, unread, refused, unread_as, want}
-use Rattle.answering.specs.Scripted.{refuses_script}
+use Rattle.net_state.specs.declared.ending.Ending.{Ending}
+use Rattle.net_state.specs.declared.ending.Ending.TheVariants as ending
+use Rattle.net_world.specs.World.{world_after}
+use Rattle.net_settling.specs.Settling.{HasTime}
+use Rattle.net_settling.proofs.Whole.{ends_in_time}
+use Rattle.common_call.specs.declared.input.Unread.{Unread}
+use Rattle.common_call.specs.declared.input.Unread.TheVariants as no_input
+use Rattle.autonet_call.specs.declared.status.Status.{Status}
+use Rattle.autonet_call.specs.declared.status.Status.TheVariants.{Ok, Usage, ScriptRefused, ReadFault, WriteFault, TablesRefused, Unsettled, EpochsSpent, JournalRefused, JournalFull, OutOfMemory}
+use Rattle.autonet_call.specs.Status.{code_of, line_of}
+use Rattle.autonet_call.specs.Answer.{Gives, Refuses, Streams, IsAnswer, IsCause, IsGiven, IsStop, input_limit, given, cut, stopped, unread, refused, unread_as, want}
+use Rattle.autonet_call.specs.Scripted.{refuses_script}
 use Rattle.commands.specs.InTime.{IsUnsettledAnswer, gives_late_replay, gives_late_run}
 use Rattle.commands.specs.Replay.{gives_replayed, refuses_journal}
 use Rattle.commands.specs.Reported.{IsReported, status_of_end}

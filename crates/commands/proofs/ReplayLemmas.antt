@@ -4,7 +4,7 @@ use Rattle.net_script.specs.Scripts.{ScriptOf}
 use Rattle.replay.specs.Replays.{IfIllegal, IsNoReplay}
 use Rattle.replay.specs.declared.refusal.ReplayRefusal.{ReplayRefusal}
 use Rattle.replay.specs.declared.refusal.ReplayRefusal.TheVariants.{Illegal, OutOfMemory}
-use Rattle.answering.specs.declared.status.Status.TheVariants as ended
+use Rattle.autonet_call.specs.declared.status.Status.TheVariants as ended
 use Rattle.commands.specs.Replay.{IsScriptWith, refuses_journal, replay_refused_as}
 
 -- the status of a refused journal says why

@@ -10,28 +10,28 @@ use Rattle.net_script.proofs.TextLemmas.{no_fault, one_text}
 use Rattle.journal.specs.Events.{CanSpell, journal_text}
 use Rattle.journal_cause.specs.declared.cause.JournalCause.{JournalCause}
 use Rattle.host_traffic.specs.Packets.{PacketOf, packet_of}
-use Rattle.fabric_state.specs.declared.ending.Ending.{Ending}
-use Rattle.fabric_state.specs.Fits.{IsPacketSound}
-use Rattle.fabric_state.specs.Lawful.{is_lawful}
-use Rattle.fabric_state.proofs.LawfulLemmas.{command_is, lawful_is, ready_command}
-use Rattle.fabric_state.proofs.ReadyLemmas.{clock_ready, handle_ready, load_ready, restart_ready, take_ready}
-use Rattle.fabric_world.specs.World.{WorldOf, world_after}
-use Rattle.fabric_world.specs.Histories.{AreLawful, IsLegal}
-use Rattle.fabric_world.proofs.CommandLemmas.{command_fits}
-use Rattle.fabric_world.proofs.FabricLemmas.{world_fits}
-use Rattle.fabric_world.proofs.PlaceLemmas.{switch_below}
-use Rattle.fabric_world.proofs.WorldLemmas.{world_after-event}
+use Rattle.net_state.specs.declared.ending.Ending.{Ending}
+use Rattle.net_state.specs.Fits.{IsPacketSound}
+use Rattle.net_state.specs.Lawful.{is_lawful}
+use Rattle.net_state.proofs.LawfulLemmas.{command_is, lawful_is, ready_command}
+use Rattle.net_state.proofs.ReadyLemmas.{clock_ready, handle_ready, load_ready, restart_ready, take_ready}
+use Rattle.net_world.specs.World.{WorldOf, world_after}
+use Rattle.net_world.specs.Histories.{AreLawful, IsLegal}
+use Rattle.net_world.proofs.CommandLemmas.{command_fits}
+use Rattle.net_world.proofs.FabricLemmas.{world_fits}
+use Rattle.net_world.proofs.PlaceLemmas.{switch_below}
+use Rattle.net_world.proofs.WorldLemmas.{world_after-event}
 use Rattle.replay.specs.Replays.{IsIllegal}
 use Rattle.replay.specs.declared.refusal.ReplayRefusal.TheVariants.{Illegal, OutOfMemory}
 use Rattle.replay.proofs.ReplayLemmas.{legal_is_not_refused}
-use Rattle.answering.specs.Answer.{Streams, IsAnswer, input_limit, refuses_nothing}
-use Rattle.answering.specs.Scripted.{refuses_script}
+use Rattle.autonet_call.specs.Answer.{Streams, IsAnswer, input_limit, refuses_nothing}
+use Rattle.autonet_call.specs.Scripted.{refuses_script}
 use Rattle.switch_threads.specs.declared.running.Told.{Told}
-use Rattle.answering.specs.declared.status.Status.{Status}
+use Rattle.autonet_call.specs.declared.status.Status.{Status}
 use Rattle.commands.specs.Reported.{IsReported}
 use Rattle.commands.specs.Run.{IsRun, IsToldRun, gives_run, gives_run_of}
 use Rattle.commands.specs.Words.{IsRunAnswer}
-use Rattle.answering.proofs.AllToldLemmas.{answered_as, not_refused}
+use Rattle.autonet_call.proofs.AllToldLemmas.{answered_as, not_refused}
 
 -- LAWFUL EVENTS CAN BE SPELLED
 

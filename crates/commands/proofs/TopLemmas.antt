@@ -1,15 +1,15 @@
 -- The answer to words is that of the command that they name.
 use Rattle.std.proofs.Common.{◌≡◌, ◌≢◌, ◌∙◌, sym, ap, subst, ℕ, ◌+◌, ◌*◌, true, false, List, [], ◌∷◌, refl, eqb, eq-eqb, length, get_or}
 use Rattle.std.specs.Prelude.{codes}
-use Rattle.answering.specs.Answer.{Streams, IsUsageAnswer}
-use Rattle.file_commands.specs.Flow.{AreFlowWords}
+use Rattle.autonet_call.specs.Answer.{Streams, IsUsageAnswer}
+use Rattle.autonet_file_commands.specs.Flow.{AreFlowWords}
 use Rattle.commands.specs.Gen.{AreGenWords, IsGenAnswerOn}
 use Rattle.commands.specs.Words.{IsAnswerTo, IsNamesAnswer, IsReplayAnswer, IsRunAnswer}
-use Rattle.file_commands.specs.Answers.{AreOthers, AreWordsOf, IsCheckAnswer, IsFileAnswer, IsFloodAnswer, IsFlowAnswer}
-use Rattle.file_commands.specs.declared.file.FileCommand.{FileCommand}
-use Rattle.file_commands.specs.declared.file.FileCommand.TheVariants.{Check, Expect, Flood, Flow}
-use Rattle.answering.specs.Expect.{IsExpectAnswer}
-use Rattle.file_commands.proofs.RoomLemmas.{one_room}
+use Rattle.autonet_file_commands.specs.Answers.{AreOthers, AreWordsOf, IsCheckAnswer, IsFileAnswer, IsFloodAnswer, IsFlowAnswer}
+use Rattle.autonet_file_commands.specs.declared.file.FileCommand.{FileCommand}
+use Rattle.autonet_file_commands.specs.declared.file.FileCommand.TheVariants.{Check, Expect, Flood, Flow}
+use Rattle.autonet_call.specs.Expect.{IsExpectAnswer}
+use Rattle.autonet_file_commands.proofs.RoomLemmas.{one_room}
 use Rattle.commands.proofs.GenLemmas.{one_seed, one_count}
 
 -- how long the first word is, and its first letter: no two commands have the same

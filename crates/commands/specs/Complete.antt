@@ -1,12 +1,12 @@
--- What commands give for a text of which the script is known, and the journal after it.
+-- What commands give for a text whose script is known, and the journal after it.
 
 use Rattle.std.specs.Prelude.{◌≡◌, ℕ, List}
 use Rattle.an_base.specs.declared.event.Event.{Event}
 use Rattle.net_script.specs.Scripts.{ScriptOf}
 use Rattle.report.specs.Beliefs.{AreNames}
-use Rattle.answering.specs.declared.status.Status.{Status}
-use Rattle.answering.specs.declared.status.Status.TheVariants.{Ok}
-use Rattle.answering.specs.Answer.{Gives}
+use Rattle.autonet_call.specs.declared.status.Status.{Status}
+use Rattle.autonet_call.specs.declared.status.Status.TheVariants.{Ok}
+use Rattle.autonet_call.specs.Answer.{Gives}
 use Rattle.commands.specs.Reported.{IsReported}
 
 -- `replay`: the report of the journal, with the status of its end

@@ -1,4 +1,4 @@
-//! The command `gen`: a network by a number, with a summary of it.
+//! The command `gen`: a random network from a seed, with a summary of its run.
 
 ghost use Rattle.std.specs.Prelude.{◌≡◌, ◌≢◌, ◌≤◌, ◌++◌, ℕ, List, [], ◌∷◌, IfOk, IfSome, MatchOption, OnOk};
 ghost use Rattle.net_gen.specs.Summary.{IsComment, IsSummary};
@@ -6,9 +6,10 @@ ghost use Rattle.net_script.specs.Texts.{IsText};
 ghost use Rattle.script_text.specs.Canonical.{canonical_text};
 ghost use Rattle.commands.specs.Gen.{AreGenWords, IsGenAnswerOn, IsGenCause, IsGenerated};
 
-use an_base::memory::OutOfMemory;
-use an_base::text::Word;
-use answering::status::{Status, finish};
+use autonet_call::status::{Status, finish};
+use common_lines::word::number_between;
+use common_values::memory::OutOfMemory;
+use common_values::text::Word;
 use net_gen::script::script_of;
 use net_gen::summary::summary;
 use net_script::script::Script;
@@ -16,9 +17,8 @@ use outside::all::write_all;
 use outside::sink::Sink;
 use script_text::printer::print;
 use std::alloc::Global;
-use text_lines::word::number_between;
 
-// The second and the third of three words, of which the first has these bytes.
+// Returns the second and the third of three arguments, if the first has these bytes.
 fn words_behind<'a>(words: &'a [Word], bytes: &[u8]) -> Option<(&'a Word, &'a Word)>
     ensures { MatchOption result
         ((second third : List ℕ) → words.now ≢ bytes.now ∷ second ∷ third ∷ [])
@@ -33,7 +33,7 @@ fn words_behind<'a>(words: &'a [Word], bytes: &[u8]) -> Option<(&'a Word, &'a Wo
     None
 }
 
-// The seed and the number of switches, if the words are `gen SEED N` with N from 1 to 100.
+// Returns the seed and the number of switches, if the arguments are `gen SEED N` with N from 1 to 100.
 pub(crate) fn gen_words(words: &[Word]) -> Option<(u64, u8)>
     ensures words { MatchOption result ((seed count : ℕ) → ¬ AreGenWords words.now seed count)
         (λ numbers. AreGenWords words.now numbers.0 numbers.1) }
@@ -46,7 +46,7 @@ pub(crate) fn gen_words(words: &[Word]) -> Option<(u64, u8)>
     Some((seed, count as u8))
 }
 
-// Appends the line on how the run of a script on one thread ends.
+// Appends the line about how the run of a script on one thread ends.
 fn push_summary(alloc: Global, text: &mut Vec<u8>, script: &Script) -> Result<(), OutOfMemory>
     ensures { OnOk result ((line : List ℕ) × IsSummary script.now line × IsComment line
         × (text.new.items ≡ text.old.items ++ line)) }
@@ -56,7 +56,7 @@ fn push_summary(alloc: Global, text: &mut Vec<u8>, script: &Script) -> Result<()
     Ok(())
 }
 
-// The text of a script, and the line on how its run on one thread ends.
+// Returns the text of a script, and the line about how its run on one thread ends.
 fn summed(alloc: Global, script: &Script) -> Result<Vec<u8>, OutOfMemory>
     ensures { IfOk result (λ text. (line : List ℕ) × IsSummary script.now line × IsText text.items script.now
         × (text.items ≡ canonical_text script.now ++ line)) }
@@ -66,7 +66,7 @@ fn summed(alloc: Global, script: &Script) -> Result<Vec<u8>, OutOfMemory>
     Ok(text)
 }
 
-// The text of the script of a seed, and the line on how its run on one thread ends.
+// Returns the text of the script of a seed, and the line about how its run on one thread ends.
 fn generated(alloc: Global, seed: u64, count: u8) -> Result<Vec<u8>, OutOfMemory>
     requires least { 1 ≤ count }
     requires most { count ≤ 100 }
@@ -76,7 +76,7 @@ fn generated(alloc: Global, seed: u64, count: u8) -> Result<Vec<u8>, OutOfMemory
     summed(alloc, &script)
 }
 
-// Writes them to out, or answers why they are not there.
+// Writes both to `out`, and returns the status, or why they could not be made.
 fn status_of<O: Sink>(alloc: Global, seed: u64, count: u8, out: &mut O) -> Status
     requires least { 1 ≤ count }
     requires most { count ≤ 100 }
@@ -91,9 +91,9 @@ fn status_of<O: Sink>(alloc: Global, seed: u64, count: u8, out: &mut O) -> Statu
     }
 }
 
-/// Answers `gen SEED N`, with N from 1 to 100: writes to out the script that is made from a seed with so many
-/// switches, and after it one line on how its run on one thread ends. The answer is the number of a status,
-/// whose line goes to err. If memory is wanting out is left alone.
+/// Runs `gen SEED N`: writes to `out` the script that is made from `seed` with `count` switches (1 to 100), and
+/// after it one line about how its run on one thread ends. Returns the number of a status, whose line goes to
+/// `err`. If memory runs out, `out` is unchanged.
 pub fn autonet_gen<O: Sink, E: Sink>(
     alloc: Global,
     seed: u64,

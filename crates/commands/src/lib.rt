@@ -1,7 +1,6 @@
-//! The commands: the call that answers the words after the program's name, over any streams.
-//!
-//! It stands on all crates below. Its contract is the top call's: what each status means, what the source
-//! then has left, and what each sink gained. Of the calls of single commands only that of `run` may wait.
+//! autonet, commands: all commands of `autonet`, over any streams.
+//! Its top call runs the command that the program's arguments name. Its contract is that of this call: what each
+//! status means, what the source then has left, and what each sink gained. Of the commands, only `run` can wait.
 #![tactic(auto)]
 
 pub mod generate;

@@ -3,14 +3,14 @@
 ghost use Rattle.std.specs.Prelude.{◌≤◌, length, IfErr, IfOk};
 ghost use Rattle.replay.specs.Replays.{IfIllegal, IsNoReplay};
 ghost use Rattle.report.specs.Beliefs.{AreNamesIn};
-ghost use Rattle.answering.specs.Answer.{input_limit, streams};
+ghost use Rattle.autonet_call.specs.Answer.{input_limit, streams};
 ghost use Rattle.commands.specs.Names.{gives_names};
 ghost use Rattle.commands.specs.Words.{IsNamesAnswer};
 ghost use Rattle.commands.specs.Replay.{refuses_journal};
 
 use crate::replaying::{Journaled, read_first, refused};
-use answering::command::{Command, Given, answer};
-use answering::status::Status;
+use autonet_call::command::{Command, Given, answer};
+use autonet_call::status::Status;
 use outside::sink::Sink;
 use outside::source::Source;
 use replay::refusal::ReplayRefusal;
@@ -21,7 +21,7 @@ use std::alloc::Global;
 #[derive(Clone, Copy)]
 struct Names;
 
-// What hosts believe in what stands after a script.
+// Returns what hosts believe in the journal that follows a script.
 fn named(alloc: Global, input: Journaled) -> Result<Vec<u8>, ReplayRefusal>
     requires few { length input.after.now ≤ input_limit }
     ensures names { IfOk result (λ text. AreNamesIn input.entry.script input.entry.after.now text.items) }
@@ -48,9 +48,9 @@ impl Command for Names {
     }
 }
 
-/// Answers `names`: reads a script with a journal after it from the source, and writes what hosts believe in
-/// it to out. The answer is the number of a status, whose line goes to err. If the source fails or has more
-/// bytes than the limit, if script or journal is refused, or if memory is wanting, out is left alone.
+/// Runs `names`: reads a script with a journal after it from `source`, and writes what hosts believe in it to
+/// `out`. Returns the number of a status, whose line goes to `err`. If `source` fails or has more bytes than the
+/// limit, if script or journal is rejected, or if memory runs out, `out` is unchanged.
 pub fn autonet_names<S: Source, O: Sink, E: Sink>(
     alloc: Global,
     source: &mut S,

@@ -1,16 +1,16 @@
 //! The command `replay`: the report of a journal.
 
 ghost use Rattle.std.specs.Prelude.{◌≡◌, ◌⊎◌, ◌≤◌, length, IfErr, IfOk};
-ghost use Rattle.answering.specs.declared.status.Status.TheVariants as ended;
+ghost use Rattle.autonet_call.specs.declared.status.Status.TheVariants as ended;
 ghost use Rattle.replay.specs.Replays.{IfIllegal, IsNoReplay};
-ghost use Rattle.answering.specs.Answer.{IsEnding, input_limit, streams};
+ghost use Rattle.autonet_call.specs.Answer.{IsEnding, input_limit, streams};
 ghost use Rattle.commands.specs.Replay.{IsScriptWith, gives_replayed, refuses_journal, replay_refused_as};
 ghost use Rattle.commands.specs.Words.{IsReplayAnswer};
 ghost use Rattle.commands.specs.Reported.{IsReportedText};
 
 use crate::reported::told_text;
-use answering::command::{Command, Given, answer};
-use answering::status::Status;
+use autonet_call::command::{Command, Given, answer};
+use autonet_call::status::Status;
 use net_script::reader::read;
 use net_script::script::Script;
 use outside::sink::Sink;
@@ -23,7 +23,7 @@ use std::alloc::Global;
 #[derive(Clone, Copy)]
 struct Replay;
 
-// The status of a text that is no journal, or whose journal is not legal.
+// Returns the status of a text that is not a journal, or whose journal is not legal.
 pub(crate) fn refused(refusal: ReplayRefusal) -> Status
     ensures { result ≡ replay_refused_as refusal }
 {
@@ -33,16 +33,16 @@ pub(crate) fn refused(refusal: ReplayRefusal) -> Status
     }
 }
 
-// A script, and the bytes that stand after it.
+// A script, and the bytes after it.
 #[derive(Drop)]
 pub(crate) struct Journaled<'a> {
     // The script.
     pub(crate) script: Script,
-    // The bytes that are to begin with the text of a journal.
+    // The bytes, which must begin with the text of a journal.
     pub(crate) after: &'a [u8],
 }
 
-// The script with which an input begins, and what stands after it.
+// Returns the script with which an input begins, and the bytes after it.
 pub(crate) fn read_first(alloc: Global, bytes: &[u8]) -> Result<Journaled, Status>
     requires few { length bytes.now ≤ input_limit }
     ensures read { IfOk result (λ input. IsScriptWith bytes.now input.script input.after.now) }
@@ -55,7 +55,7 @@ pub(crate) fn read_first(alloc: Global, bytes: &[u8]) -> Result<Journaled, Statu
     Ok(Journaled { script, after })
 }
 
-// The report of what stands after a script, with the status of its end.
+// Returns the report of the journal that follows a script, with the status of its end.
 fn replayed(alloc: Global, input: Journaled) -> Result<Given, ReplayRefusal>
     requires few { length input.after.now ≤ input_limit }
     ensures reported { IfOk result (λ given.
@@ -81,9 +81,9 @@ impl Command for Replay {
     }
 }
 
-/// Answers `replay`: reads a script with a journal after it from the source, and writes the report of the
-/// journal to out. The answer is the number of a status, whose line goes to err. If the source fails or has
-/// more bytes than the limit, if script or journal is refused, or if memory is wanting, out is left alone.
+/// Runs `replay`: reads a script with a journal after it from `source`, and writes the report of the journal to
+/// `out`. Returns the number of a status, whose line goes to `err`. If `source` fails or has more bytes than the
+/// limit, if script or journal is rejected, or if memory runs out, `out` is unchanged.
 pub fn autonet_replay<S: Source, O: Sink, E: Sink>(
     alloc: Global,
     source: &mut S,

@@ -2,19 +2,19 @@
 
 ghost use Rattle.std.specs.Prelude.{◌≡◌, ◌≤◌, length, IfErr, IfOk};
 ghost use Rattle.replay.specs.Replays.{IfIllegal, IsNoReplay, IsRefusal};
-ghost use Rattle.answering.specs.Answer.{IsEnding, input_limit};
+ghost use Rattle.autonet_call.specs.Answer.{IsEnding, input_limit};
 ghost use Rattle.commands.specs.Reported.{IsReported, IsReportedText, status_of_end};
 
-use an_base::memory::OutOfMemory;
-use answering::command::Given;
-use answering::status::Status;
-use fabric_state::ending::Ending;
+use autonet_call::command::Given;
+use autonet_call::status::Status;
+use common_values::memory::OutOfMemory;
 use net_script::script::Script;
+use net_state::ending::Ending;
 use replay::refusal::ReplayRefusal;
 use report::reporter::{Report, life_name, reported_text};
 use std::alloc::Global;
 
-// The status of a journal with this end, at this tick.
+// Returns the status of a journal with this end, at this tick.
 fn status_of(alloc: Global, script: &Script, end: Ending, tick: u32) -> Result<Status, OutOfMemory>
     ensures status { IfOk result (λ status. status ≡ status_of_end script.now tick end) }
     ensures ends { IfOk result IsEnding }
@@ -29,7 +29,10 @@ fn status_of(alloc: Global, script: &Script, end: Ending, tick: u32) -> Result<S
     })
 }
 
-/// A report, with the status of the end of its journal.
+/// Returns a report with the status of the end of its journal.
+///
+/// # Errors
+/// `OutOfMemory` if an allocation fails.
 pub fn given(alloc: Global, script: &Script, report: Report) -> Result<Given, OutOfMemory>
     ensures status { IfOk result (λ given. given.status ≡ status_of_end script.now report.tick report.end) }
     ensures ends { IfOk result (λ given. IsEnding given.status) }
@@ -42,7 +45,12 @@ pub fn given(alloc: Global, script: &Script, report: Report) -> Result<Given, Ou
     })
 }
 
-/// The report of the journal with whose text the bytes begin, with the status of its end, if the journal is legal.
+/// Returns the report of the legal journal with whose text `bytes` begins, with the status of its end. The caller
+/// must pass at most 2^28 bytes.
+///
+/// # Errors
+/// `Illegal` with the first error of a text that is not a journal, or why the journal is not legal; or
+/// `OutOfMemory`, which says nothing about `bytes`.
 pub fn told_text(alloc: Global, script: &Script, bytes: &[u8]) -> Result<Given, ReplayRefusal>
     requires few { length bytes.now ≤ input_limit }
     ensures reported { IfOk result (λ given.

@@ -1,22 +1,22 @@
-//! The command `run`. It is no `Command`, whose calls start no threads.
+//! The command `run`. It is not a `Command`, because the calls of a `Command` start no threads.
 
 ghost use Rattle.std.specs.Prelude.{◌≡◌, ◌⊎◌, ◌≤◌, All, length, IfErr, IfOk};
 ghost use Rattle.journal.specs.Events.{CanSpell, journal_text};
 ghost use Rattle.net_script.specs.Scripts.{IsScript};
-ghost use Rattle.calling.specs.Inputs.{IsInput};
-ghost use Rattle.answering.specs.declared.status.Status.TheVariants as ended;
-ghost use Rattle.answering.specs.Answer.{streams, IsCause, IsEnding, IsStop, input_limit};
+ghost use Rattle.common_call.specs.Inputs.{IsInput};
+ghost use Rattle.autonet_call.specs.declared.status.Status.TheVariants as ended;
+ghost use Rattle.autonet_call.specs.Answer.{streams, IsCause, IsEnding, IsStop, input_limit};
 ghost use Rattle.commands.specs.Reported.{IsReported};
 ghost use Rattle.commands.specs.Run.{IsRun, IsToldRun, gives_run};
-ghost use Rattle.answering.specs.Scripted.{refuses_script};
+ghost use Rattle.autonet_call.specs.Scripted.{refuses_script};
 ghost use Rattle.commands.specs.Words.{IsRunAnswer};
 
 use crate::reported::given as given_of;
-use an_base::memory::OutOfMemory;
-use answering::command::Given;
-use answering::input::INPUT_LIMIT;
-use answering::status::{Status, finish};
-use calling::input::read_input;
+use autonet_call::command::Given;
+use autonet_call::input::INPUT_LIMIT;
+use autonet_call::status::{Status, finish};
+use common_call::input::read_input;
+use common_values::memory::OutOfMemory;
 use journal::printer::print;
 use net_script::reader::read;
 use net_script::script::Script;
@@ -29,7 +29,7 @@ use std::sync::Wait;
 use std::thread::{Threads, join};
 use switch_threads::{Gate, Told};
 
-// The report of a run, with the status of its end.
+// Returns the report of a run, with the status of its end.
 fn report_of(alloc: Global, script: &Script, told: &Told) -> Result<Given, OutOfMemory>
     requires { IsToldRun script.now told.now }
     ensures reported { IfOk result (λ given.
@@ -41,8 +41,8 @@ fn report_of(alloc: Global, script: &Script, told: &Told) -> Result<Given, OutOf
     given_of(alloc, script, report)
 }
 
-// The text of the journal of a run and, after it, its report, with the status of its end. The two are made
-// beside each other.
+// Returns the text of the journal of a run and, after it, its report, with the status of its end. The two are made
+// in parallel.
 fn printed<R: Threads + Sync>(
     rt: &R,
     alloc: Global,
@@ -76,7 +76,7 @@ fn printed<R: Threads + Sync>(
     })
 }
 
-// The same for a run of the network of a script.
+// Runs the network of a script, and returns the text and the status of the run.
 fn ran<R: Threads + Wait + Sync, G: Gate>(
     rt: &R,
     gate: &G,
@@ -91,7 +91,8 @@ fn ran<R: Threads + Wait + Sync, G: Gate>(
     printed(rt, alloc, &script, &told)
 }
 
-// The same for a script whose text the bytes are, or the status that says why there is none.
+// Runs the network of the script whose text is `bytes`, and returns the text and the status of the run, or the
+// status that says why there is none.
 #[tactic(auto, using(net_script::proofs::ScriptKept::text_kept))]
 fn given<R: Threads + Wait + Sync, G: Gate>(
     rt: &R,
@@ -109,7 +110,8 @@ fn given<R: Threads + Wait + Sync, G: Gate>(
     Ok(ran(rt, gate, alloc, script)?)
 }
 
-// The same for what the source gives.
+// Runs the network of the script in the source, and returns the text and the status of the run, or why there is
+// none.
 fn found<R: Threads + Wait + Sync, G: Gate, S: Source>(
     rt: &R,
     gate: &G,
@@ -127,7 +129,7 @@ fn found<R: Threads + Wait + Sync, G: Gate, S: Source>(
     given(rt, gate, alloc, &bytes)
 }
 
-// Writes it to out, or answers why there is none.
+// Writes the text to `out`, and returns the status, or why there is no text.
 fn status_of<R: Threads + Wait + Sync, G: Gate, S: Source, O: Sink>(
     rt: &R,
     gate: &G,
@@ -148,14 +150,14 @@ fn status_of<R: Threads + Wait + Sync, G: Gate, S: Source, O: Sink>(
     }
 }
 
-/// Answers `run`: reads a script from the source, runs its network with a worker for each switch, and writes the
-/// journal of the run, and after it its report, to out. `gate` is called round each turn of a worker. Of up to four
-/// switches each worker has a thread of its own, and of more if workers may wait for one another at the gate; else
-/// two threads have half of them each. The answer is the number of a status, whose line goes to err. It may
-/// never answer, as `switch_threads::run` may never return.
+/// Runs `run`: reads a script from `source`, runs its network with a worker for each switch, and writes the journal
+/// of the run, and after it its report, to `out`. `gate` is called around each turn of a worker. Up to four workers
+/// have a thread each, and so do more if workers can wait for one another at the gate; otherwise two threads have
+/// half of the workers each. Returns the number of a status, whose line goes to `err`. The call can run for ever,
+/// as `switch_threads::run` can.
 ///
-/// If the source fails or has more bytes than the limit, if it gives no script, or if memory is wanting, out
-/// is left alone. No thread is started before the whole script is read.
+/// If `source` fails or has more bytes than the limit, if it has no script, or if memory runs out, `out` is
+/// unchanged. No thread is started before the whole script is read.
 pub fn autonet_run<R: Threads + Wait + Sync, G: Gate, S: Source, O: Sink, E: Sink>(
     rt: &R,
     gate: &G,

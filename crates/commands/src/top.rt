@@ -1,16 +1,16 @@
-//! The call that answers all words.
+//! The call that runs the command that the arguments name.
 
-ghost use Rattle.answering.specs.Answer.{streams};
+ghost use Rattle.autonet_call.specs.Answer.{streams};
 ghost use Rattle.commands.specs.Words.{IsAnswerTo};
 
 use crate::generate::{autonet_gen, gen_words};
 use crate::names::autonet_names;
 use crate::replaying::autonet_replay;
 use crate::run::autonet_run;
-use an_base::text::Word;
-use answering::status::{Status, finish};
-use answering::words::is_word;
-use file_commands::file::{answer_file, command_of};
+use autonet_call::status::{Status, finish};
+use autonet_call::words::is_word;
+use autonet_file_commands::file::{answer_file, command_of};
+use common_values::text::Word;
 use outside::sink::Sink;
 use outside::source::Source;
 use std::alloc::Global;
@@ -18,9 +18,9 @@ use std::sync::Wait;
 use std::thread::Threads;
 use switch_threads::Gate;
 
-/// Answers the words after the program's name. The answer is the number of a status, whose line
-/// goes to err. Words that are no command leave the source and out alone. Only `run` starts threads, and
-/// only it calls the gate.
+/// Runs the command that `words`, the arguments after the program's name, give. Returns the number of a status,
+/// whose line goes to `err`. If the arguments are not a command, `source` is unread and `out` unchanged. Only `run`
+/// starts threads, and only `run` calls the gate.
 #[tactic(auto, using(crate::proofs::TopLemmas::answers_gen, crate::proofs::TopLemmas::answers_usage))]
 pub fn autonet<R: Threads + Wait + Sync, S: Source, O: Sink, E: Sink, G: Gate>(
     rt: &R,

@@ -3,7 +3,7 @@ use Rattle.std.proofs.lemmas.Bool.{false≢true}
 use Rattle.an_base.specs.Values.{EndId}
 use Rattle.an_base.specs.Order.{end_cmp}
 use Rattle.an_base.proofs.OrderLaws.{end_apart}
-use Rattle.an_base.proofs.OrderingLemmas.{equal_is}
+use Rattle.common_values.proofs.OrderingLemmas.{equal_is}
 use Rattle.connectivity.specs.Connections.{is_end, is_same_end}
 
 -- the test of two ends tells that they are one

@@ -1,4 +1,4 @@
--- What is known of the far end of a link, by the probes that go out there and the replies that come.
+-- What is known of the far end of a link, from the probes sent there and the replies received.
 
 use Rattle.std.specs.Prelude.{ℕ, ◌+◌, ◌==◌, ◌<◌, ◌≤◌, ◌&&◌, nat_lt, Bool, true, false, not, Option, Some, None, is_some, if◌then◌else◌}
 use Rattle.std.specs.Ordering.{is_eq}
@@ -8,8 +8,8 @@ use Rattle.skeptic.specs.Skeptics.{SkepticOf, hold, failed, praised, cleared}
 use Rattle.connectivity.specs.declared.conn.Conn.{Conn}
 use Rattle.connectivity.specs.declared.conn.Conn.TheVariants.{Who, Loop, Good}
 
--- Who it is; how often that failed; the number of the last probe, and who answered it; who may become the
--- peer, and how many probes in a row it answered; and whether the peer missed the last probe
+-- what is known of a far end: who it is; how often that failed; the number of the last probe, and who answered it;
+-- who can become the peer, and how many probes in a row it answered; and whether the peer missed the last probe
 pub record ConnectivityOf : Type 0 where
   pub me : EndId
   pub conn : Conn
@@ -20,7 +20,7 @@ pub record ConnectivityOf : Type 0 where
   pub streak : ℕ
   pub missed : Bool
 
--- nothing is known
+-- nothing is known of the far end of the link at end `me`
 abbrev pub unknown : EndId → ConnectivityOf
 unknown me = record {
   me = me;
@@ -33,45 +33,46 @@ unknown me = record {
   missed = false;
 }
 
--- whether two ends are one
+-- whether two ends are equal
 abbrev pub is_same_end : EndId → EndId → Bool
 is_same_end one other = is_eq (end_cmp one other)
 
--- whether an end is known, and is this one
+-- whether an end is known, and is `end`
 abbrev pub is_end : Option EndId → EndId → Bool
 is_end None end = false
 is_end (Some one) end = is_same_end one end
 
--- the next probe goes out, and is not answered yet
+-- the state after the next probe has started, still unanswered
 abbrev pub probed : ConnectivityOf → ConnectivityOf
 probed known = record known { nonce = known.nonce + 1; answer = None }
 
--- a reply counts if it is the first to the last probe
+-- whether a reply to probe `nonce` counts: it is the first to the last probe
 abbrev pub counts : ℕ → ConnectivityOf → Bool
 counts nonce known = (nonce == known.nonce) && (nat_lt 0 nonce && not (is_some known.answer))
 
--- a reply came from this end, with this number
+-- the state after a reply by end `from` to probe `nonce`
 abbrev pub replied : EndId → ℕ → ConnectivityOf → ConnectivityOf
 replied from nonce known = if counts nonce known then record known { answer = Some from } else known
 
--- the link begins anew; the level and the number of the last probe stay
+-- the state with the far end forgotten; the hold-down level and the number of the last probe stay
 abbrev pub forgotten : ConnectivityOf → ConnectivityOf
 forgotten known = record known { conn = Who; answer = None; candidate = None; streak = 0; missed = false }
 
--- the peer is lost
+-- the state after the peer is lost
 abbrev pub doubted : ConnectivityOf → ConnectivityOf
 doubted known =
     record known { conn = Who; skeptic = failed known.skeptic; candidate = None; streak = 0; missed = false }
 
--- an end with this switch's identifier is this switch
+-- what end `from` is: this switch itself, if it has its identifier, or another one
 abbrev pub met : EndId → EndId → Conn
 met me from = if from.life.uid == me.life.uid then Loop from else Good from
 
--- how many probes in a row this end has answered now
+-- the number of probes in a row that end `from` has answered, if it answered the last one
 abbrev pub streak_of : EndId → ConnectivityOf → ℕ
 streak_of from known = if is_end known.candidate from then known.streak + 1 else 1
 
--- the far end becomes the peer once it answered as many probes in a row as the skeptic asks for
+-- the state after end `from` has answered `streak` probes in a row: it becomes the peer if the skeptic requires
+-- that many
 abbrev pub asked_by : EndId → ℕ → ConnectivityOf → ConnectivityOf
 asked_by from streak known =
     if streak == hold known.skeptic
@@ -84,12 +85,13 @@ asked_by from streak known =
     }
     else record known { candidate = Some from; streak = streak }
 
--- None: nobody answered the last probe, and the count of those in a row begins anew
+-- the state after the last probe is judged while the peer is not known; if nobody answered it, the count restarts
 abbrev pub asked : Option EndId → ConnectivityOf → ConnectivityOf
 asked None known = record known { candidate = None; streak = 0 }
 asked (Some from) known = asked_by from (streak_of from known) known
 
--- the peer is lost if another end answered, or nobody did twice in a row
+-- the state after the last probe is judged while `peer` is the peer: it is lost if another end answered, or if two
+-- probes in a row are unanswered
 abbrev pub held_by : EndId → Option EndId → ConnectivityOf → ConnectivityOf
 held_by peer None known =
     if known.missed then doubted known else record known { skeptic = cleared known.skeptic; missed = true }
@@ -98,16 +100,17 @@ held_by peer (Some from) known =
     then record known { skeptic = praised known.skeptic; missed = false }
     else doubted known
 
--- the last probe is judged
+-- the state after the last probe is judged, by what was known before
 abbrev pub judged_as : Conn → ConnectivityOf → ConnectivityOf
 judged_as Who known = asked known.answer known
 judged_as (Loop peer) known = held_by peer known.answer known
 judged_as (Good peer) known = held_by peer known.answer known
 
+-- the state after the last probe is judged
 abbrev pub judged : ConnectivityOf → ConnectivityOf
 judged known = judged_as known.conn known
 
--- while the peer is not known, fewer probes in a row were answered than are asked for; and else at most 128
+-- while the peer is not known, fewer probes in a row were answered than are required; otherwise at most 128
 abbrev pub IsFew : Conn → ℕ → ℕ → Type 0
 IsFew Who streak hold = streak < hold
 IsFew (Loop peer) streak hold = streak ≤ 128

@@ -1,14 +1,14 @@
-//! What is known of a far end, without how it became known, which `far` keeps.
+//! What is known of a far end. How it became known is kept in `far`.
 
 use an_base::life::End;
 
 /// What is known of the switch at the far end of a link.
 #[derive(Clone, Copy, PartialEq, Eq)]
 pub enum Conn {
-    /// It is not known who is there.
+    /// The switch is not known.
     Who,
-    /// It is this switch itself, at this end.
+    /// It is this switch itself, at this end of its own.
     Loop(End),
-    /// It is another switch, at this end.
+    /// It is another switch, at this end of that switch.
     Good(End),
 }

@@ -1,4 +1,4 @@
-//! How a far end becomes known and is lost again: each step judges one probe by the first reply to it.
+//! How a far end becomes known and is lost: each step judges one probe by the first reply to it.
 
 ghost use Rattle.std.specs.Prelude.{◌≡◌, ◌≢◌, ◌<◌, ◌^◌, false};
 ghost use Rattle.connectivity.specs.Connections.{unknown, probed, replied, judged, forgotten, is_end, asked, met, held_by, doubted};
@@ -37,7 +37,7 @@ impl Model for Connectivity {
 }
 
 impl Connectivity {
-    /// Nothing is known of the far end of the link at this own end.
+    /// Creates the state of the link at end `me`, whose far end is not known.
     pub fn new(me: End) -> Self
         ensures { result ≡ unknown me }
     {
@@ -53,21 +53,23 @@ impl Connectivity {
         }
     }
 
-    /// What is known of the far end.
+    /// Returns what is known of the far end.
     pub fn conn(&self) -> Conn
         ensures { result ≡ self.now.conn }
     {
         self.conn
     }
 
-    /// The number of the last probe; 0 before the first.
+    /// Returns the number of the last probe, 0 before the first.
     pub fn nonce(&self) -> u64
         ensures { result ≡ self.now.nonce }
     {
         self.nonce
     }
 
-    /// The number of the next probe, which goes out now. Fewer than 2^63 went out before.
+    /// Starts the next probe, and returns its number.
+    ///
+    /// Fewer than 2^63 probes must have been started before.
     pub fn probe(&mut self) -> u64
         requires { self.old.nonce < 2 ^ 63 }
         ensures nonce { result ≡ self.new.nonce }
@@ -78,7 +80,7 @@ impl Connectivity {
         self.nonce
     }
 
-    /// A reply came from this end with this number. It counts if it is the first to the last probe.
+    /// Records a reply by end `from` to probe `nonce`, if it is the first reply to the last probe.
     pub fn on_reply(&mut self, from: End, nonce: u64)
         ensures { self.new ≡ replied from nonce self.old }
     {
@@ -87,7 +89,7 @@ impl Connectivity {
         }
     }
 
-    /// The last probe is judged, before the next one goes out; and what is then known.
+    /// Judges the last probe, before the next one starts, and returns what is then known.
     pub fn step(&mut self) -> Conn
         ensures conn { result ≡ self.new.conn }
         ensures after { self.new ≡ judged self.old }
@@ -100,8 +102,9 @@ impl Connectivity {
         self.conn
     }
 
-    /// The link begins anew: nobody is known, and no probe is answered. The level and the number of
-    /// the last probe stay.
+    /// Forgets the far end, and any reply to the last probe.
+    ///
+    /// The hold-down level and the number of the last probe stay.
     pub fn clear(&mut self)
         ensures { self.new ≡ forgotten self.old }
     {
@@ -112,7 +115,7 @@ impl Connectivity {
         self.missed = false;
     }
 
-    // Whether this end answered the probes before.
+    // Reports whether this end answered the probes before.
     fn is_candidate(&self, from: End) -> bool
         ensures { result ≡ is_end self.now.candidate from }
     {
@@ -122,7 +125,7 @@ impl Connectivity {
         }
     }
 
-    // The last probe is judged while the peer is not known.
+    // Judges the last probe while the peer is not known.
     fn ask(&mut self)
         requires { self.old.conn ≡ Who }
         ensures { self.new ≡ asked self.old.answer self.old }
@@ -145,7 +148,7 @@ impl Connectivity {
         }
     }
 
-    // The last probe is judged while this is the peer.
+    // Judges the last probe while `peer` is the peer.
     fn keep(&mut self, peer: End)
         requires { self.old.conn ≢ Who }
         ensures { self.new ≡ held_by peer self.old.answer self.old }
@@ -164,7 +167,7 @@ impl Connectivity {
         }
     }
 
-    // The peer is lost.
+    // Loses the peer.
     fn doubt(&mut self)
         ensures { self.new ≡ doubted self.old }
     {

@@ -9,7 +9,7 @@ use Rattle.an_base.specs.Numbers.{AreNumbers}
 use Rattle.dep_check.specs.declared.channel.Channel.{Channel}
 use Rattle.dep_check.specs.declared.steps.Steps.{Steps}
 use Rattle.dep_check.specs.Channels.{place_in, HasExit, LeadsTo}
-use Rattle.channel_graph.specs.Cycles.{Walk}
+use Rattle.common_graph.specs.Cycles.{Walk}
 use Rattle.dep_check.specs.Packets.{GoesOn, IsGap, MeetsGap}
 use Rattle.dep_check.specs.Tables.{IsSpot, wire_at, WiresAreWithin, row_at, HasBelow, AreExitsBelow}
 use Rattle.dep_check.specs.Search.{Depends, GoesBy, IsStepOf, Step, AreSteps, IsEnd, IsEndOf, IsStuck}

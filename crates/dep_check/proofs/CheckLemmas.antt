@@ -6,7 +6,7 @@ use Rattle.an_base.specs.Rows.{RowOf}
 use Rattle.dep_check.specs.declared.channel.Channel.{Channel}
 use Rattle.dep_check.specs.declared.steps.Steps.{Steps}
 use Rattle.dep_check.specs.Channels.{IsChannel, LeadsTo, channel_cmp}
-use Rattle.channel_graph.specs.Cycles.{Path, HasNoCycle, IsLeastCycle, AreRanks}
+use Rattle.common_graph.specs.Cycles.{Path, HasNoCycle, IsLeastCycle, AreRanks}
 use Rattle.dep_check.specs.Tables.{IsSpot, wire_at, WiresAreWithin, AreWires, level_at, rank_at}
 use Rattle.dep_check.specs.Search.{Step, AreSteps, IsLinked, AreRanked}
 use Rattle.dep_check.proofs.SpotLemmas.{option_cases, spot_true, spot_cases}

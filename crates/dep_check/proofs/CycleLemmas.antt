@@ -8,7 +8,7 @@ use Rattle.std.proofs.lemmas.Bool.Decides.{nat_tests}
 use Rattle.std.proofs.lemmas.Option.{same_Some}
 use Rattle.dep_check.specs.declared.channel.Channel.{Channel}
 use Rattle.dep_check.specs.declared.steps.Steps.{Steps}
-use Rattle.channel_graph.specs.Cycles.{Walk, Path, IsCycle, IsLeastFrom, IsLeastCycle}
+use Rattle.common_graph.specs.Cycles.{Walk, Path, IsCycle, IsLeastFrom, IsLeastCycle}
 use Rattle.dep_check.specs.Channels.{channel_cmp}
 use Rattle.dep_check.specs.Tables.{IsSpot, place_of, level_at, wire_at}
 use Rattle.dep_check.specs.Search.{IsStepOf, IsStep, Step, IsLinked, AreRanked, AreNearest, IsNextAt, HasNextAt, IsLeastAfter, LeastAfter, Descends, IsLeastCycleFrom}

@@ -2,7 +2,7 @@ use Rattle.std.proofs.Common.{◌≡◌, ◌∙◌, sym, ap, subst, refl, ℕ, z
 use Rattle.std.proofs.lemmas.List.{get_or_default}
 use Rattle.std.specs.Prelude.{is_some}
 use Rattle.std.proofs.lemmas.Option.{same_Some}
-use Rattle.an_base.proofs.ListLemmas.{some_is}
+use Rattle.common_values.proofs.ListLemmas.{some_is}
 use Rattle.dep_check.specs.declared.channel.Channel.{Channel}
 use Rattle.dep_check.specs.declared.steps.Steps.{Steps}
 use Rattle.dep_check.specs.declared.level.Rule.{Rule}
@@ -10,7 +10,7 @@ use Rattle.dep_check.specs.declared.level.Rule.TheVariants.{Nearest}
 use Rattle.dep_check.specs.Tables.{IsSpot, place_of, level_at, WiresAreWithin}
 use Rattle.dep_check.specs.Search.{IsStepOf, Step, IsRaised, AreRaised, Reaches, AreNearest, AreNearestBelow}
 use Rattle.dep_check.specs.Rounds.{AreGoals}
-use Rattle.an_base.proofs.PigeonLemmas.{pigeons}
+use Rattle.common_values.proofs.PigeonLemmas.{pigeons}
 use Rattle.dep_check.proofs.SpotLemmas.{option_cases, place_low, one_spot}
 
 -- what a step leads to is a spot

@@ -1,17 +1,17 @@
 -- The answer is one: ranks are one, a refusal is one, and what passes is not refused.
 use Rattle.std.proofs.Common.{◌≡◌, ap, refl, ℕ, List, Option, true, Equal, inl, inr, ◌⊎◌}
-use Rattle.an_base.proofs.OrderLaws.{nat_apart}
+use Rattle.common_values.proofs.OrderingLemmas.{nat_apart}
 use Rattle.std.specs.declared.cmp.Ordering.{Ordering}
 use Rattle.std.specs.Ordering.{nat_cmp, ordering_then, is_le}
 use Rattle.std.specs.Cmp.{IsTotalOrder, then_total, on_total, nat_cmp_total}
 use Rattle.an_base.specs.Values.{EntryOf}
 use Rattle.an_base.specs.Rows.{RowOf}
-use Rattle.an_base.proofs.OrderingLemmas.{then_equal, tied}
+use Rattle.common_values.proofs.OrderingLemmas.{then_equal, tied}
 use Rattle.dep_check.specs.declared.channel.Channel.{Channel}
 use Rattle.dep_check.specs.declared.refusal.CheckRefusal.{CheckRefusal}
 use Rattle.dep_check.specs.declared.refusal.CheckRefusal.TheVariants.{Cycle, NotJoined, IllegalExit, OutOfMemory}
 use Rattle.dep_check.specs.Channels.{far_at, IsChannel, LeadsTo, channel_cmp}
-use Rattle.channel_graph.proofs.OneAnswer.{no_both, one_cycle, one_rank}
+use Rattle.common_graph.proofs.OneAnswer.{no_both, one_cycle, one_rank}
 use Rattle.dep_check.specs.Packets.{four_cmp}
 use Rattle.dep_check.specs.Tables.{rank_at}
 use Rattle.dep_check.specs.Answer.{IsRefusal, Passes}

@@ -5,7 +5,7 @@ use Rattle.std.proofs.lemmas.Option.{same_Some}
 use Rattle.an_base.specs.Rows.{RowOf}
 use Rattle.dep_check.specs.declared.channel.Channel.{Channel}
 use Rattle.dep_check.specs.Channels.{IsChannel, HasExit, LeadsTo}
-use Rattle.channel_graph.specs.Cycles.{Walk, AreRanks}
+use Rattle.common_graph.specs.Cycles.{Walk, AreRanks}
 use Rattle.dep_check.specs.Packets.{GoesOn, IsGap, AllAreJoined}
 use Rattle.dep_check.specs.Laws.{GoesBetween}
 use Rattle.dep_check.proofs.SpotLemmas.{option_cases}

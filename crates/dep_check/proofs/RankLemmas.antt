@@ -4,10 +4,10 @@ use Rattle.std.proofs.lemmas.Option.{same_Some}
 use Rattle.dep_check.specs.declared.channel.Channel.{Channel}
 use Rattle.dep_check.specs.declared.steps.Steps.{Steps}
 use Rattle.dep_check.specs.declared.level.Rule.TheVariants.{Rank}
-use Rattle.channel_graph.specs.Cycles.{Path, IsCycle}
+use Rattle.common_graph.specs.Cycles.{Path, IsCycle}
 use Rattle.dep_check.specs.Tables.{IsSpot, place_of, level_at}
 use Rattle.dep_check.specs.Search.{Step, IsStepOf, IsLinked, IsRaised, AreRaised, IsRanked, AreRanked, AreRankedBelow}
-use Rattle.an_base.proofs.PigeonLemmas.{pigeons}
+use Rattle.common_values.proofs.PigeonLemmas.{pigeons}
 use Rattle.dep_check.proofs.SpotLemmas.{option_cases, place_low, one_spot}
 use Rattle.dep_check.proofs.LevelLemmas.{step_spot, none_is, few_levels, had_none}
 

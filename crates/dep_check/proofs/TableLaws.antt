@@ -20,7 +20,7 @@ use Rattle.table_build.proofs.ShortestLaws.{has_shortest}
 use Rattle.table_build.proofs.CycleLaws.{no_cycle}
 use Rattle.dep_check.specs.declared.channel.Channel.{Channel}
 use Rattle.dep_check.specs.Channels.{place_in, far_at, HasExit, LeadsTo}
-use Rattle.channel_graph.specs.Cycles.{Walk, Path, HasNoCycle}
+use Rattle.common_graph.specs.Cycles.{Walk, Path, HasNoCycle}
 use Rattle.dep_check.specs.Packets.{GoesOn, IsGap, AllAreJoined}
 use Rattle.dep_check.specs.Illegal.{LeadsUp, AllAreLegal}
 use Rattle.dep_check.specs.Laws.{AreTables}

@@ -2,7 +2,7 @@
 use Rattle.std.proofs.Common.{refl, ℕ, ◌≤◌, List, [], ◌∷◌, arith}
 use Rattle.dep_check.specs.declared.channel.Channel.{Channel}
 use Rattle.dep_check.specs.declared.steps.Steps.{Steps}
-use Rattle.channel_graph.specs.Cycles.{Path, IsCycle}
+use Rattle.common_graph.specs.Cycles.{Path, IsCycle}
 use Rattle.dep_check.specs.Search.{Step}
 use Rattle.dep_check.specs.Tiers.{tier_at, AreTiers, HasPeer}
 

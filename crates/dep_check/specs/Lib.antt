@@ -1,11 +1,11 @@
--- what public contracts cite
+-- definitions that public contracts cite
 pub mod Channels
 pub mod Packets
 pub mod Illegal
 pub mod Answer
 pub mod Laws
 pub mod Tables
--- what private functions cite
+-- definitions that only private functions cite
 pub mod Search
 pub mod Rounds
 pub mod Walks

@@ -1,22 +1,22 @@
--- What a walk over the steps sees. Only private functions cite this.
+-- The spots that a walk over the steps sees. Only private functions cite this.
 use Rattle.std.specs.Prelude.{◌≡◌, ◌⊎◌, ◌+◌, ℕ, List, [], ◌∷◌, length, Bool, true, false, Contains}
 use Rattle.std.specs.Prelude.{slice_index_or, if◌then◌else◌}
 use Rattle.dep_check.specs.declared.channel.Channel.{Channel}
 use Rattle.dep_check.specs.declared.steps.Steps.{Steps}
-use Rattle.channel_graph.specs.Cycles.{Walk}
+use Rattle.common_graph.specs.Cycles.{Walk}
 use Rattle.dep_check.specs.Tables.{IsSpot, place_of}
 use Rattle.dep_check.specs.Search.{IsStuck, Step}
 
--- whether a spot is seen
+-- whether `spot` is seen
 abbrev pub seen_at : List Bool → Channel → Bool
 seen_at seen spot = slice_index_or seen (place_of spot) false
 
--- how many spots are not
+-- the number of spots that are not seen
 abbrev pub unseen : List Bool → ℕ
 unseen [] = 0
 unseen (seen ∷ rest) = (if seen then 0 else 1) + unseen rest
 
--- The spots of a kind are seen, and those that were not are put before the others that are ahead.
+-- The spots of `Kind` are seen now, and those that were not seen before are put in front of the others in `ahead`.
 pub record Sees (Kind : Channel → Type 0) (old : List Bool) (before : List Channel) (seen : List Bool)
     (ahead : List Channel) : Type 0 where
   pub count : length seen ≡ length old
@@ -29,21 +29,21 @@ pub record Sees (Kind : Channel → Type 0) (old : List Bool) (before : List Cha
   pub each : (spot : Channel) → Contains ahead spot → Contains before spot ⊎ Kind spot
   pub size : unseen seen + length ahead ≡ unseen old + length before
 
--- steps lead from the one to the other
+-- steps lead from `start` to `spot`
 abbrev pub Leads : Steps → Channel → Channel → Type 0
 Leads steps start spot = (distance : ℕ) × Walk (Step steps) distance start spot
 
--- packets get stuck at a spot to which steps lead
+-- packets get stuck at some spot that steps lead to from `start`
 abbrev pub LeadsToEnd : Steps → Channel → Type 0
 LeadsToEnd steps start = (end : Channel) × IsSpot end × Leads steps start end × IsStuck steps end
 
--- a spot was looked at: all that its steps lead to is seen, and if packets get stuck there, it is told
+-- `spot` was visited: all spots that its steps lead to are seen, and if packets get stuck there, `stuck` is true
 pub record IsLookedAt (steps : Steps) (seen : List Bool) (stuck : Bool) (spot : Channel) : Type 0 where
   pub next : (after : Channel) → Step steps spot after → seen_at seen after ≡ true
   pub told : IsStuck steps spot → stuck ≡ true
 
--- on a walk from a spot: what was seen before, what is now, by a flag for each of the 1,651 spots, and what
--- is still to be looked at
+-- the state of a walk from `start`: the spots seen before (`had`) and now (`seen`), a flag for each of the 1,651, and
+-- the spots that are still to be visited (`ahead`)
 pub record IsWalking (steps : Steps) (start : Channel) (had seen : List Bool) (ahead : List Channel)
     (stuck : Bool) : Type 0 where
   pub count : length seen ≡ 1651
@@ -58,7 +58,7 @@ pub record IsWalking (steps : Steps) (start : Channel) (had seen : List Bool) (a
       → (seen_at had spot ≡ true) ⊎ (Contains ahead spot ⊎ IsLookedAt steps seen stuck spot)
   pub found : stuck ≡ true → LeadsToEnd steps start
 
--- the same when it has ended
+-- the state of a walk from `start` when it has ended
 pub record IsWalked (steps : Steps) (start : Channel) (had seen : List Bool) (stuck : Bool) : Type 0 where
   pub count : length seen ≡ 1651
   pub begun : seen_at seen start ≡ true
@@ -71,7 +71,7 @@ pub record IsWalked (steps : Steps) (start : Channel) (had seen : List Bool) (st
       → (seen_at had spot ≡ true) ⊎ IsLookedAt steps seen stuck spot
   pub found : stuck ≡ true → LeadsToEnd steps start
 
--- no packets get stuck at what is seen, and all that its steps lead to is seen
+-- no packets get stuck at a spot that is seen, and all spots that its steps lead to are seen
 abbrev pub IsClear : Steps → List Bool → Type 0
 IsClear steps seen =
     (spot : Channel) → IsSpot spot → seen_at seen spot ≡ true → IsLookedAt steps seen false spot

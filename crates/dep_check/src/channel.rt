@@ -1,8 +1,8 @@
-//! Channels are named as rows name them, by number. Cycles are compared by their order: number first, then port.
+//! Channels, named by number as rows do. Cycles are compared by the order of channels: by number, then by port.
 
-use an_base::items::Items;
+use common_values::items::Items;
 
-/// A switch, by its number, and one of its ports. As a channel it is the link that leaves there.
+/// A switch, by its number, and one of its ports. As a channel it represents the link that leaves there.
 #[derive(Clone, Copy, PartialEq, Eq, PartialOrd, Ord)]
 pub struct Channel {
     /// The number of the switch.
@@ -11,5 +11,5 @@ pub struct Channel {
     pub port: u8,
 }
 
-/// Channels of which each leads to the next.
+/// Channels, each of which leads to the next.
 pub type Channels = Items<Channel>;

@@ -1,4 +1,4 @@
-//! The check: it ranks the channels, which a cycle alone prevents, then looks for a pair and for an exit to refuse.
+//! The check: it ranks the channels, which only a cycle prevents, then searches for a pair and for an exit to reject.
 
 ghost use Rattle.std.specs.Prelude.{◌≡◌, ◌<◌, length, Some, None, IfOk, IfErr, MatchBool};
 ghost use Rattle.dep_check.specs.declared.channel.Channel.{Channel};
@@ -17,15 +17,15 @@ use crate::spot::{SPOTS, spot_at};
 use crate::steps::Steps;
 use crate::wires::wires_of;
 use an_base::limits::{LAST_PORT, MOST_NUMBER};
-use an_base::memory::OutOfMemory;
 use an_base::numbers::Numbers;
 use an_base::row::Row;
+use common_values::memory::OutOfMemory;
 use std::alloc::Global;
 use std::marker::Model;
 use topo_graph::graph::Graph;
 
-/// The ranks of the channels, so that each is above all that it leads to. Contracts see them as a
-/// list over all switches and ports.
+/// The ranks of the channels: each is above the ranks that its channel leads to. Contracts see them
+/// as a list over all switches and ports.
 #[derive(Drop)]
 pub struct Ranks {
     levels: Vec<Option<u16>>,
@@ -42,9 +42,10 @@ impl Model for Ranks {
 impl Ranks {
     ghost use Rattle.dep_check.specs.Tables.{rank_at};
 
-    /// The rank of the channel at a port of the switch that has a number: 0 if it leads nowhere,
-    /// else one more than the greatest rank that it leads to. None exactly if this is no channel.
-    /// It takes no memory.
+    /// Returns the rank of the channel at `port` of the switch with the number `at`.
+    ///
+    /// It is 0 if the channel leads nowhere, otherwise one more than the highest rank that it leads to;
+    /// and `None` if and only if this is not a channel. It does not allocate.
     pub fn rank(&self, at: u8, port: u8) -> Option<u16>
         ensures { result ≡ rank_at self.now (record { at = at; port = port }) }
     {
@@ -105,21 +106,22 @@ fn ranked_by(
     })
 }
 
-/// Judges the rows of routing tables for a graph, with one number for each of its entries. A row
-/// names its switch and its target by number.
+/// Checks the rows of routing tables for `graph`, and returns the ranks of the channels if they pass.
 ///
-/// The rows may come in any order. A row without exits is as one that is missing, and the exits of
-/// rows for one switch, entry and number count together. Rows whose entry is no port with a link, or
-/// whose number is the switch's own or no switch's, count for cycles and illegal exits and not for
-/// pairs. A host's port and a link of a switch to itself are exits without a link.
+/// A row names its switch and its target by number; the caller must pass one number for each entry of the
+/// graph. The rows can be in any order. A row without exits counts as a missing row, and the exits of rows
+/// for the same switch, ingress port and number count together. If a row's ingress port has no link, or its
+/// number is the switch's own or belongs to no switch, the row counts for cycles and illegal exits, but not
+/// for pairs. A host's port, and a link from a switch to itself, are exits without a link.
 ///
-/// As the code is written, and by no clause, the time is linear in the rows and their exits: it looks a few
-/// times at each row and at each step from channel to channel, and once at each step of packets, which is by
-/// an exit of a row towards their number. Beside that each number of the topology takes a fixed time, and a
-/// least cycle one search from each channel that leads to its own tier, up to the least one on a cycle.
+/// By design, not proved, the time is linear in the rows and their exits: it visits each row and each step
+/// from channel to channel a few times, and each step of packets (by an exit of a row towards their number)
+/// once. In addition each number of the topology takes a fixed time, and a least cycle takes one search from
+/// each channel that leads to its own tier, up to the least one on a cycle.
 ///
-/// It refuses, in this order, a cycle of channels, a pair that is not joined, and an illegal exit, each
-/// the least there is; and else gives the ranks of the channels.
+/// # Errors
+/// The least cycle of channels; otherwise the least pair that is not joined; otherwise the least illegal
+/// exit. `OutOfMemory` says nothing about the rows.
 pub fn check(
     alloc: Global,
     graph: &Graph,

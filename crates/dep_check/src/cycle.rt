@@ -1,7 +1,7 @@
-//! The least cycle. It starts at the least channel that leads back to itself, and follows levels that fall to it.
+//! The least cycle. It starts at the least channel on any cycle, and follows levels that fall to that channel.
 
 ghost use Rattle.std.specs.Prelude.{◌≡◌, ◌<◌, ◌+◌, IfOk, MatchOption, IfSome, Some, None, ◌∷◌};
-ghost use Rattle.channel_graph.specs.Cycles.{HasNoCycle, IsLeastCycle};
+ghost use Rattle.common_graph.specs.Cycles.{HasNoCycle, IsLeastCycle};
 ghost use Rattle.dep_check.specs.Channels.{channel_cmp};
 ghost use Rattle.dep_check.specs.Tables.{IsSpot};
 ghost use Rattle.dep_check.specs.Search.{AreNearest, HasNextAt, IsNextAt, LeastAfter, Step, IsLeastCycleFrom};
@@ -11,7 +11,7 @@ use crate::level::{level_of, nearest_to};
 use crate::spot::{SPOTS, spot_at};
 use crate::steps::Steps;
 use crate::tier::{has_peer, tiers_of};
-use an_base::memory::OutOfMemory;
+use common_values::memory::OutOfMemory;
 use std::alloc::Global;
 
 // The least channel of a level to which a channel leads.
@@ -95,8 +95,13 @@ fn cycle_from(
     Ok(Channels::of(channels))
 }
 
-/// The least cycle, if there is one. It looks at each step a few times, but for each channel that
-/// leads to its own tier up to the least one on a cycle, which as the tiers are made is that one alone.
+/// Returns the least cycle, if there is one. The caller must pass the steps of channels.
+///
+/// By design, not proved, it visits each step a few times for each channel that leads to its own tier,
+/// up to the least one on a cycle; with the tiers as computed, this is only that channel.
+///
+/// # Errors
+/// `OutOfMemory` if an allocation fails.
 pub fn least_cycle(alloc: Global, steps: &Steps) -> Result<Option<Channels>, OutOfMemory>
     requires { steps.now.to ≡ None }
     ensures { IfOk result (λ found. MatchOption found (HasNoCycle (Step steps.now))

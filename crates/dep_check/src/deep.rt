@@ -1,4 +1,4 @@
-//! Walks in depth, with their path on the heap. `tier` makes them along the steps, then back from what was left last.
+//! Depth-first walks, with their path on the heap. `tier` walks along the steps, then back from the spot left last.
 
 ghost use Rattle.std.specs.Prelude.{◌≡◌, ◌<◌, length, All, IfOk, IfSome, None, OnOk};
 ghost use Rattle.dep_check.specs.Deep.{AreVisits, HasVisited, IsLonger};
@@ -9,15 +9,15 @@ use crate::ports::has;
 use crate::spot::{SPOTS, place_of, spot_at};
 use crate::steps::Steps;
 use crate::walk::none_seen;
-use an_base::memory::OutOfMemory;
+use common_values::memory::OutOfMemory;
 use std::alloc::Global;
 
-/// A spot that a walk comes to, or that it leaves.
+/// A spot that a walk reaches or leaves.
 #[derive(Clone, Copy)]
 pub struct Visit {
     /// The spot.
     pub spot: Channel,
-    /// Whether the walk leaves it, having come to all to which it leads.
+    /// Whether the walk leaves it, after reaching all spots that it leads to.
     pub leaves: bool,
 }
 
@@ -133,9 +133,14 @@ fn make_visit(
     Ok(())
 }
 
-/// A walk in depth along the steps, or back along them. It adds the spots that it comes to and that were
-/// not seen to those that it has left, in the order in which it leaves them. It looks once at each step
-/// from them, or to them.
+/// Walks depth-first along the steps from `start`, or, if `back`, back along them.
+///
+/// It marks the unseen spots that it reaches in `seen`, and adds them to `left` in the order in which it
+/// leaves them. It visits each step from them, or to them, once. Only lengths and ranges are proved. The
+/// caller must pass the steps of channels, a flag for each of the 1,651 spots, and valid spots.
+///
+/// # Errors
+/// `OutOfMemory` if an allocation fails. The contract then says nothing about `seen` and `left`.
 pub fn walk_deep(
     alloc: Global,
     steps: &Steps,
@@ -162,7 +167,10 @@ pub fn walk_deep(
     Ok(())
 }
 
-/// All spots, in the order in which walks in depth leave them.
+/// Returns all spots, in the order in which depth-first walks leave them. The caller must pass the steps of channels.
+///
+/// # Errors
+/// `OutOfMemory` if an allocation fails.
 pub fn leave_all(alloc: Global, steps: &Steps) -> Result<Vec<Channel>, OutOfMemory>
     requires { steps.now.to ≡ None }
     ensures { IfOk result (λ left. All IsSpot left.items) }

@@ -1,4 +1,4 @@
-//! The least pair that rows do not join. The walks towards one target share what they have seen.
+//! The least pair that rows do not join. All walks towards a target share the spots that they have seen.
 
 ghost use Rattle.std.specs.Prelude.{◌≡◌, ◌<◌, ◌+◌, ℕ, List, Option, [], length, IfOk, OnOk, MatchBool, MatchOption};
 ghost use Rattle.an_base.specs.Rows.{RowOf};
@@ -16,21 +16,21 @@ use crate::spot::{SPOTS, spot_at};
 use crate::steps::Steps;
 use crate::targets::ByTarget;
 use crate::walk::{is_seen, none_seen, walk};
-use an_base::memory::OutOfMemory;
 use an_base::numbers::Numbers;
 use an_base::row::Row;
+use common_values::memory::OutOfMemory;
 use std::alloc::Global;
 
-/// A pair that is not joined, by numbers, and where packets get stuck between them.
+/// A pair of numbers that is not joined, and the place where packets between them get stuck.
 #[derive(Clone, Copy)]
 pub struct Gap {
-    /// Where they start.
+    /// The number of the switch where they start.
     pub from: u8,
-    /// Where they go.
+    /// The number of the switch that they go to.
     pub to: u8,
-    /// The switch where they get stuck.
+    /// The number of the switch where they get stuck.
     pub at: u8,
-    /// The entry at which they came in there.
+    /// The port where they arrived there.
     pub entry: u8,
 }
 
@@ -169,7 +169,13 @@ fn least_end(alloc: Global, steps: &Steps, start: Channel) -> Result<Option<Chan
     Ok(None)
 }
 
-/// The least pair that is not joined, and for it the least place where packets get stuck.
+/// Returns the least pair that is not joined, with the least place where its packets get stuck, if there
+/// is one.
+///
+/// The caller must pass far sides in `wires` that are symmetric, as links are.
+///
+/// # Errors
+/// `OutOfMemory` if an allocation fails.
 pub fn least_gap(
     alloc: Global,
     wires: &[Option<Channel>],

@@ -1,4 +1,4 @@
-//! The least illegal exit. Exits by spot are tried first; single rows are gone over only if these do not pass.
+//! The least illegal exit. Exits by spot are checked first; single rows are visited only if these do not pass.
 
 ghost use Rattle.std.specs.Prelude.{◌≡◌, ◌↔◌, ◌+◌, ℕ, List, Option, IsTrue, MatchOption, None, IfOk, length, true};
 ghost use Rattle.std.specs.Int.{bit_at};
@@ -17,10 +17,10 @@ use crate::spot::{SPOTS, place_of, spot_at};
 use crate::steps::Steps;
 use crate::wires::place_in;
 use an_base::limits::{LAST_PORT, MOST_NUMBER};
-use an_base::memory::OutOfMemory;
 use an_base::numbers::Numbers;
 use an_base::port_set::{lowest, without};
 use an_base::row::Row;
+use common_values::memory::OutOfMemory;
 use std::alloc::Global;
 use topo_graph::graph::Graph;
 use updown::route::is_up_end;
@@ -30,9 +30,9 @@ use updown::route::is_up_end;
 pub struct RowExit {
     /// The number of the row's switch.
     pub at: u8,
-    /// The row's entry.
+    /// The row's ingress port.
     pub entry: u8,
-    /// The number to which its packets go.
+    /// The number that its packets go to.
     pub to: u8,
     /// The exit.
     pub exit: u8,
@@ -224,8 +224,13 @@ fn are_legal(sides: &Sides<'_>, exits: &[u16], rows: &[Row]) -> bool
     are_all_legal(sides, exits)
 }
 
-/// The least illegal exit of the rows, if these are the far sides of the spots, and the steps have the
-/// exits of all rows. If there is one, it looks once at each exit of the rows.
+/// Returns the least illegal exit of `rows`, if there is one.
+///
+/// By design, not proved, it visits the exits of single rows, each once, only if there is one. The caller must
+/// pass the far sides of all spots, and steps that have the exits of all rows.
+///
+/// # Errors
+/// `OutOfMemory` if an allocation fails.
 pub fn least_illegal(
     alloc: Global,
     graph: &Graph,

@@ -1,4 +1,4 @@
-//! What it means that rows pass, and which rows always do. No function here has code.
+//! Theorems about rows that pass, and the rows that always do. No function here has code.
 
 ghost use Rattle.std.specs.Prelude.{◌≡◌, ◌⊎◌, ◌≤◌, ℕ, suc, List, Option, Some, Bool, length};
 ghost use Rattle.an_base.specs.Values.{EntryOf};
@@ -6,7 +6,7 @@ ghost use Rattle.an_base.specs.Rows.{RowOf};
 ghost use Rattle.an_base.specs.Numbers.{AreNumbers};
 ghost use Rattle.topo_graph.specs.Topology.{IsGraph, IsTree};
 ghost use Rattle.dep_check.specs.Channels.{far_at, HasExit, LeadsTo};
-ghost use Rattle.channel_graph.specs.Cycles.{HasNoCycle, Walk};
+ghost use Rattle.common_graph.specs.Cycles.{HasNoCycle, Walk};
 ghost use Rattle.dep_check.specs.Packets.{AllAreJoined, GoesOn};
 ghost use Rattle.dep_check.specs.Illegal.{AllAreLegal};
 ghost use Rattle.dep_check.specs.Laws.{AreTables, GoesBetween};
@@ -16,8 +16,8 @@ ghost use Rattle.dep_check.specs.declared.channel.Channel.{Channel};
 ghost use Rattle.dep_check.specs.declared.refusal.CheckRefusal.{CheckRefusal};
 ghost use Rattle.dep_check.specs.declared.refusal.CheckRefusal.TheVariants.{OutOfMemory};
 
-/// The rows of the tables of all members are never refused, if the positions are the tree of the
-/// links, for any distinct numbers, whether packets take any legal route or shortest ones alone.
+/// States that `check` never rejects the rows of the tables of all members, if the positions are the tree
+/// of the links, for all distinct numbers, whether packets take all legal routes or only shortest ones.
 pub fn tables_are_never_refused()
     ensures no_cycle { (entries : List EntryOf) (numbers : List ℕ) (any : Bool) (rows : List RowOf)
         → IsGraph entries
@@ -33,8 +33,8 @@ pub fn tables_are_never_refused()
         → AllAreLegal entries numbers rows }
 {}
 
-/// Rows have one answer, but for want of memory: what passes is not refused, a refusal is one, and
-/// the ranks are.
+/// States that rows have one result, except for `OutOfMemory`: rows that pass are not rejected, there is only
+/// one reason to reject them, and the ranks are determined.
 pub fn one_answer()
     ensures passed { (entries : List EntryOf) (numbers : List ℕ) (rows : List RowOf) (ranks : List (Option ℕ))
         (refusal : CheckRefusal)
@@ -49,11 +49,11 @@ pub fn one_answer()
         → rank_at ranks channel ≡ rank_at others channel }
 {}
 
-/// Rows that pass bring each packet from one switch to another to its target, wherever it has come to.
-/// If a following goes on for more than so many links, the row that it begins with has an exit
-/// whose channel has at least that rank; so each following of the rows ends. A following from one
-/// switch to another that cannot go on is at its target; and from wherever one is, some following
-/// goes on to there.
+/// States that rows that pass bring every packet from one switch to another to its target, wherever it is.
+///
+/// If packets follow the rows over more than `links` links, the first row has an exit whose channel has at
+/// least the rank `links`; so following the rows always ends. A packet from one switch to another that
+/// cannot continue is at its target; and from wherever it is, it can continue to the target.
 pub fn packets_reach_their_targets()
     ensures bounded { (entries : List EntryOf) (numbers : List ℕ) (rows : List RowOf)
         (ranks : List (Option ℕ)) (to links : ℕ) (start end : Channel)

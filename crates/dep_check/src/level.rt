@@ -1,4 +1,4 @@
-//! Ranks, and least numbers of steps to a goal. Both are given in rounds, to the spots that the last round made due.
+//! Ranks, and lowest numbers of steps to a goal. Each round assigns them to the spots that the last round made due.
 
 ghost use Rattle.std.specs.Prelude.{◌≡◌, ◌<◌, ◌↔◌, ◌++◌, ℕ, List, Option, [], ◌∷◌, length, None, IsTrue};
 ghost use Rattle.std.specs.Prelude.{Contains, IfOk, OnOk, MatchBool};
@@ -11,23 +11,23 @@ ghost use Rattle.dep_check.specs.Rounds.{LeadsToOne};
 use crate::channel::Channel;
 use crate::spot::{SPOTS, place_of, spot_at};
 use crate::steps::Steps;
-use an_base::memory::OutOfMemory;
 use an_base::port_set::{lowest, without};
+use common_values::memory::OutOfMemory;
 use std::alloc::Global;
 
-/// When a spot without a level gets one.
+/// The rule for when a spot without a level gets one.
 #[derive(Clone, Copy)]
 pub enum Rule {
-    /// When some step leads to one that has a level. The goal has the level 0.
+    /// Some step from it leads to a spot with a level. The goal has the level 0.
     Nearest {
         /// The goal.
         goal: Channel,
     },
-    /// When it is a channel and all its steps do.
+    /// It is a channel, and all steps from it lead to spots with levels.
     Rank,
 }
 
-/// The level of a spot, if it has one.
+/// Returns the level of `spot`, if it has one.
 pub fn level_of(levels: &[Option<u16>], spot: Channel) -> Option<u16>
     requires { IsSpot spot }
     ensures { result ≡ level_at levels.now spot }
@@ -256,8 +256,14 @@ fn all_levels(
     unreachable!()
 }
 
-/// The ranks of channels: 0 if one leads nowhere, else one more than the greatest that it leads
-/// to; none for those that lead for ever to others without one. It looks at each step a few times.
+/// Returns the ranks of channels. The caller must pass the steps of channels.
+///
+/// A rank is 0 if the channel leads nowhere, otherwise one more than the highest rank that it leads to.
+/// Channels that lead for ever to others without a rank have none. By design, not proved, it visits each
+/// step a few times.
+///
+/// # Errors
+/// `OutOfMemory` if an allocation fails.
 pub fn ranks_of(alloc: Global, steps: &Steps) -> Result<Vec<Option<u16>>, OutOfMemory>
     requires { steps.now.to ≡ None }
     ensures { IfOk result (λ levels. AreRanked steps.now levels.items) }
@@ -277,7 +283,12 @@ fn goal_level(alloc: Global, goal: Channel) -> Result<Vec<Option<u16>>, OutOfMem
     Ok(levels)
 }
 
-/// The least number of steps from each channel to one of them. It looks at each step a few times.
+/// Returns the lowest number of steps from each channel to `goal`. The caller must pass the steps of channels.
+///
+/// By design, not proved, it visits each step a few times.
+///
+/// # Errors
+/// `OutOfMemory` if an allocation fails.
 pub fn nearest_to(
     alloc: Global,
     steps: &Steps,

@@ -1,10 +1,11 @@
-//! The deadlock checker for routing tables: whether rows of routing tables let no cycle of packets
-//! that wait for one another arise, bring every packet to its target, and never lead it upward once
-//! it came down.
+//! autonet, tables: the checker of routing tables.
 //!
-//! It stands on an_base, topo_graph and updown, and for a law on table_build. Its contract: `check`
-//! answers the least cycle of channels, else the least pair that the rows do not join, else the least
-//! illegal exit, and else the rank of each channel; and the tables of all members are never refused.
+//! It checks that packets that follow the rows of the tables cannot deadlock, reach their targets, and never go up
+//! after they came down.
+//!
+//! It depends on `common_graph` and `topo_graph`, and for a theorem on `table_build`. Its contract: `check` reports the
+//! least cycle of channels; otherwise the least pair that the rows do not join; otherwise the least illegal exit;
+//! otherwise it returns the rank of each channel. It never rejects the tables of all members.
 #![tactic(auto)]
 
 pub mod channel;

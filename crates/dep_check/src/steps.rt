@@ -1,4 +1,4 @@
-//! One graph over spots for two searches: channels that lead to channels, and packets on their way to one target.
+//! One graph of spots for two searches: channels that lead to channels, and packets on the way to one target.
 
 ghost use Rattle.std.specs.Prelude.{◌≡◌, ◌≢◌, ◌<◌, ◌↔◌, ℕ, true, length, Some, None, Contains, IsTrue, IfOk, IfSome};
 ghost use Rattle.std.specs.Int.{bit_at};
@@ -11,21 +11,23 @@ use crate::channel::Channel;
 use crate::exits::{all_exits, exits_at, has_exit, no_exits};
 use crate::spot::place_of;
 use crate::targets::ByTarget;
-use an_base::memory::OutOfMemory;
 use an_base::numbers::Numbers;
 use an_base::port_set::{lowest, without};
 use an_base::row::Row;
+use common_values::memory::OutOfMemory;
 use std::alloc::Global;
 
-/// The steps over spots: from a channel to those that it leads to by the rows of all numbers, or of
-/// packets to one number by its rows, from where they come in to where they come in next.
+/// The steps between spots.
+///
+/// They go from a channel to the channels that it leads to by the rows of all numbers; or, for packets to
+/// one number, by its rows from the spot where they arrive to the spot where they arrive next.
 #[derive(Drop)]
 pub struct Steps {
     /// The far side of each spot.
     pub wires: Vec<Option<Channel>>,
-    /// The exits of the rows, for what came in at each spot, as sets of ports.
+    /// The exits of the rows, as a set of ports for packets that arrive at each spot.
     pub exits: Vec<u16>,
-    /// The number to which packets go, None for channels.
+    /// The number that packets go to; `None` for channels.
     pub to: Option<u8>,
     ghost links: { AreLinks wires.items },
 }
@@ -33,7 +35,10 @@ pub struct Steps {
 impl Steps {
     ghost use Rattle.dep_check.specs.Search.{AreBetween, AreSteps, ComesIn, Depends, GoesBy, HasLoosePort, IsEnd, IsStep, IsStuck};
 
-    /// The steps of channels, by these rows.
+    /// Creates the steps of channels by `rows`. The caller must pass far sides that are symmetric, as links are.
+    ///
+    /// # Errors
+    /// `OutOfMemory` if an allocation fails.
     pub fn of(alloc: Global, wires: &[Option<Channel>], rows: &[Row]) -> Result<Steps, OutOfMemory>
         requires { AreLinks wires.now }
         ensures { IfOk result (AreSteps wires.now rows.now None) }
@@ -47,7 +52,10 @@ impl Steps {
         })
     }
 
-    /// Steps between these far sides that lead nowhere yet.
+    /// Creates steps between `wires` that lead nowhere yet. The caller must pass far sides that are symmetric.
+    ///
+    /// # Errors
+    /// `OutOfMemory` if an allocation fails.
     pub fn between(alloc: Global, wires: &[Option<Channel>]) -> Result<Steps, OutOfMemory>
         requires { AreLinks wires.now }
         ensures { IfOk result (AreBetween wires.now) }
@@ -61,7 +69,9 @@ impl Steps {
         })
     }
 
-    /// Makes them the steps of packets to a number of the topology, by the rows towards it.
+    /// Turns them into the steps of packets to the number `to`, by the rows towards it.
+    ///
+    /// The caller must pass the exits of `rows` by target, and a number of the topology.
     pub fn turn(&mut self, rows: &[Row], numbers: &Numbers, by_target: &ByTarget, to: u8)
         requires count { length self.old.exits.items ≡ 1651 }
         requires rows { AreByTarget rows.now numbers.now by_target.now }
@@ -73,7 +83,7 @@ impl Steps {
         self.to = Some(to);
     }
 
-    /// The far side of a spot, if a link is there.
+    /// Returns the far side of `spot`, if it has a link.
     pub fn far(&self, spot: Channel) -> Option<Channel>
         requires { IsSpot spot }
         ensures far { result ≡ wire_at self.now.wires.items spot }
@@ -110,7 +120,7 @@ impl Steps {
         exits_at(&self.exits, spot)
     }
 
-    /// The exits by which steps from a spot may lead on: all others do not.
+    /// Returns the exits that steps from `spot` can use; no step uses another exit.
     pub fn exits_from(&self, spot: Channel) -> u16
         requires { IsSpot spot }
         ensures ports { HasOnlyPorts result }
@@ -159,7 +169,7 @@ impl Steps {
         })
     }
 
-    /// Where the step by an exit leads, if there is one.
+    /// Returns the spot that the step from `spot` by `exit` leads to, if there is one.
     pub fn next(&self, spot: Channel, exit: u8) -> Option<Channel>
         requires spot { IsSpot spot }
         requires exit { exit < 13 }
@@ -172,7 +182,9 @@ impl Steps {
         }
     }
 
-    /// The channel that leads to this one by what comes in at an entry of its switch, if there is one.
+    /// Returns the channel that leads to `channel` through the port `entry` of its switch, if there is one.
+    ///
+    /// The caller must use it only on the steps of channels.
     pub fn before(&self, channel: Channel, entry: u8) -> Option<Channel>
         requires spot { IsSpot channel }
         requires entry { entry < 13 }
@@ -223,7 +235,7 @@ impl Steps {
         self.has_loose(spot.at, exits)
     }
 
-    /// Whether packets get stuck at a spot before their target; channels never do.
+    /// Reports whether packets get stuck at `spot` before their target. Steps of channels never get stuck.
     pub fn is_stuck(&self, spot: Channel) -> bool
         requires { IsSpot spot }
         ensures { IsTrue result ↔ IsStuck self.now spot }

@@ -1,4 +1,4 @@
-//! Rows are parted by target once, so that steps turn to a target by copying one table.
+//! Rows are separated by target once, so that steps turn to a target by copying one table.
 
 ghost use Rattle.std.specs.Prelude.{◌≡◌, ◌<◌, ◌+◌, ◌↔◌, ℕ, List, Option, length, Contains, IfOk, IsTrue, Some};
 ghost use Rattle.an_base.specs.Numbers.{AreNumbers};
@@ -10,16 +10,16 @@ use crate::exits::{add_row, no_exits};
 use crate::spot::SPOTS;
 use crate::wires::place_in;
 use an_base::limits::MOST_NUMBER;
-use an_base::memory::OutOfMemory;
 use an_base::numbers::Numbers;
 use an_base::row::Row;
+use common_values::memory::OutOfMemory;
 use std::alloc::Global;
 
-/// The exits of rows by their targets: for each number of a topology those of the rows towards it, as a
-/// table over all spots, and for each other number an empty table.
+/// The exits of rows by target: for each number of a topology a table of all spots with the exits of the
+/// rows towards it, and for each other number an empty table.
 #[derive(Drop)]
 pub struct ByTarget {
-    /// For each number its table.
+    /// The table of each number.
     pub tables: Vec<Vec<u16>>,
 }
 
@@ -72,7 +72,10 @@ fn add_to_target(tables: &mut Vec<Vec<u16>>, row: &Row)
 }
 
 impl ByTarget {
-    /// The exits of these rows. It looks once at each row.
+    /// Creates the tables of `rows`. It visits each row once.
+    ///
+    /// # Errors
+    /// `OutOfMemory` if an allocation fails.
     pub fn of(alloc: Global, numbers: &Numbers, rows: &[Row]) -> Result<ByTarget, OutOfMemory>
         ensures { IfOk result (AreByTarget rows.now numbers.now) }
     {
@@ -83,7 +86,7 @@ impl ByTarget {
         Ok(ByTarget { tables })
     }
 
-    /// The table of a number, empty for none of the topology.
+    /// Returns the table of `number`; it is empty if the number is not in the topology.
     pub fn table(&self, number: u8) -> &[u16]
         requires { number < length self.now.tables.items }
         ensures { result.now ≡ table_of self.now.tables.items number }
@@ -91,7 +94,7 @@ impl ByTarget {
         self.tables[usize::from(number)].as_slice()
     }
 
-    /// Whether this is a number of the topology.
+    /// Reports whether `number` has a table, as the numbers of the topology do.
     pub fn has(&self, number: u8) -> bool
         requires { number < length self.now.tables.items }
         ensures { IsTrue result ↔ HasTable self.now number }

@@ -1,4 +1,4 @@
-//! Tiers of channels: guessed by walks in depth, checked by a pass over all steps. A cycle stays within one.
+//! Tiers of channels: found by depth-first walks, checked by a pass over all steps. A cycle stays within one tier.
 
 ghost use Rattle.std.specs.Prelude.{◌≡◌, ◌≤◌, ◌<◌, ◌↔◌, length, All, IfOk, IsTrue, None};
 ghost use Rattle.dep_check.specs.Tables.{IsSpot};
@@ -9,8 +9,8 @@ use crate::deep::{leave_all, walk_deep};
 use crate::spot::{SPOTS, place_of, spot_at};
 use crate::steps::Steps;
 use crate::walk::{is_seen, none_seen};
-use an_base::memory::OutOfMemory;
 use an_base::port_set::{lowest, without};
+use common_values::memory::OutOfMemory;
 use std::alloc::Global;
 
 // The tier of a spot, 0 in an empty table, by which all spots have one tier.
@@ -94,8 +94,13 @@ fn are_tiers(steps: &Steps, tiers: &[usize]) -> bool
     true
 }
 
-/// A tier for each spot, so that no step leads to a lower one. Channels that lead to one another have one
-/// tier, and no others have; were it not so, all would have one. It looks at each step a few times.
+/// Returns a tier for each spot, so that no step leads to a lower tier. The caller must pass the steps of channels.
+///
+/// By design, not proved, channels that lead to one another share a tier, and no others do. If the tiers found
+/// do not pass the check, all spots share one instead. It visits each step a few times.
+///
+/// # Errors
+/// `OutOfMemory` if an allocation fails.
 pub fn tiers_of(alloc: Global, steps: &Steps) -> Result<Vec<usize>, OutOfMemory>
     requires { steps.now.to ≡ None }
     ensures { IfOk result (λ tiers. AreTiers steps.now tiers.items) }
@@ -120,7 +125,7 @@ fn has_peer_by(steps: &Steps, tiers: &[usize], spot: Channel, exit: u8) -> bool
     }
 }
 
-/// Whether some step from a spot leads to its own tier.
+/// Reports whether some step from `spot` leads to its own tier.
 pub fn has_peer(steps: &Steps, tiers: &[usize], spot: Channel) -> bool
     requires { IsSpot spot }
     ensures { IsTrue result ↔ HasPeer steps.now tiers.now spot }

@@ -1,4 +1,4 @@
-//! What steps lead to from a spot, by walks whose order does not count, unlike those of `deep`.
+//! The spots that steps lead to from a spot, by walks whose order does not matter, unlike those of `deep`.
 
 ghost use Rattle.std.specs.Prelude.{◌≡◌, ◌<◌, ◌↔◌, [], length, true, false, Contains, IfOk, IsTrue, OnOk};
 ghost use Rattle.dep_check.specs.declared.channel.Channel.{Channel};
@@ -9,11 +9,14 @@ ghost use Rattle.dep_check.specs.Walks.{IsWalked, seen_at, Sees};
 use crate::channel::Channel;
 use crate::spot::{SPOTS, place_of};
 use crate::steps::Steps;
-use an_base::memory::OutOfMemory;
 use an_base::port_set::{lowest, without};
+use common_values::memory::OutOfMemory;
 use std::alloc::Global;
 
-/// No spot is seen.
+/// Creates a table in which no spot is seen.
+///
+/// # Errors
+/// `OutOfMemory` if the allocation fails.
 pub fn none_seen(alloc: Global) -> Result<Vec<bool>, OutOfMemory>
     ensures none { IfOk result (λ seen. (s : Channel) → seen_at seen.items s ≡ false) }
     ensures count { IfOk result (λ seen. length seen.items ≡ 1651) }
@@ -21,7 +24,7 @@ pub fn none_seen(alloc: Global) -> Result<Vec<bool>, OutOfMemory>
     Ok(vec![in alloc; false; usize::from(SPOTS)]?)
 }
 
-/// Whether a spot is seen.
+/// Reports whether `spot` is seen.
 pub fn is_seen(seen: &[bool], spot: Channel) -> bool
     requires { IsSpot spot }
     ensures { result ≡ seen_at seen.now spot }
@@ -104,9 +107,15 @@ fn is_stuck_at(steps: &Steps, spot: Channel, clear: bool) -> bool
     steps.is_stuck(spot)
 }
 
-/// Adds to the spots that are seen all to which steps lead from one, and tells whether packets get
-/// stuck at one that it added. It looks once at each step from a spot that it adds. The room ahead holds the
-/// spots that it has still to look at: none before and after a walk, so that one room serves many.
+/// Adds all spots that steps lead to from `start` to `seen`, and reports whether packets get stuck at one of
+/// the spots added.
+///
+/// It visits each step from a spot that it adds once. The buffer `ahead` holds the spots that it must still
+/// visit; it is empty before and after a walk, so that many walks can share it. The caller must pass a flag
+/// for each of the 1,651 spots and an empty `ahead`.
+///
+/// # Errors
+/// `OutOfMemory` if an allocation fails. The contract then says nothing about `seen` and `ahead`.
 pub fn walk(
     steps: &Steps,
     seen: &mut Vec<bool>,

@@ -1,4 +1,4 @@
-//! What is at the far side of each spot. Here the places of a graph become the numbers of the rows.
+//! The far side of each spot. Here the indices of a graph become the numbers of the rows.
 
 ghost use Rattle.std.specs.Prelude.{◌≡◌, ◌+◌, ◌*◌, ◌<◌, length, IfOk, IfSome, OnOk};
 ghost use Rattle.an_base.specs.Numbers.{AreNumbers};
@@ -8,19 +8,19 @@ ghost use Rattle.dep_check.specs.Tables.{AreWires, AreWiresBelow, IsSpot};
 
 use crate::channel::Channel;
 use crate::spot::SPOTS;
-use an_base::memory::OutOfMemory;
 use an_base::numbers::Numbers;
+use common_values::memory::OutOfMemory;
 use std::alloc::Global;
 use topo_graph::graph::Graph;
 
-// Where a number stands.
+// The index of a number.
 fn position_of(numbers: &[u8], number: u8) -> Option<usize>
     ensures { result ≡ place_in numbers.now number }
 {
     numbers.iter().position(|m| *m == number)
 }
 
-/// The place of the switch that has a number, if one has it.
+/// Returns the index of the switch with the number `number`, if there is one.
 pub fn place_in(numbers: &Numbers, number: u8) -> Option<u8>
     ensures place { result ≡ place_in numbers.now number }
     ensures low { IfSome result (λ place. place < length numbers.now) }
@@ -62,7 +62,10 @@ fn push_wires(
     Ok(())
 }
 
-/// The far side of each spot.
+/// Returns the far side of each spot. The caller must pass one number for each entry of the graph.
+///
+/// # Errors
+/// `OutOfMemory` if an allocation fails.
 pub fn wires_of(
     alloc: Global,
     graph: &Graph,

@@ -18,7 +18,7 @@ use Rattle.topo_report.proofs.Members.{In, in_from, contains_from, in_append, in
 use Rattle.epoch_core.specs.Log.{CardOf, OnPort, Log, on_port, last_pos}
 use Rattle.epoch_core.specs.Epoch.{offer_of, offer_on, position}
 use Rattle.epoch_core.specs.Laws.{IsAtMost, Lowers, OnlyLowers}
-use Rattle.an_base.proofs.OrderingLemmas.{not_above, at_most}
+use Rattle.common_values.proofs.OrderingLemmas.{not_above, at_most}
 use Rattle.std.proofs.lemmas.Bool.{eqb-true, ltb-true, lt-ltb}
 
 pub at_most_itself : (p : Place) → IsAtMost p p

@@ -6,7 +6,7 @@ use Rattle.epoch_core.specs.declared.ports.Heard.{Heard}
 use Rattle.epoch_core.specs.declared.ports.Ports.{Ports}
 use Rattle.epoch_core.specs.Log.{Log, on_port, is_claimed, answered, last_report, fresh_report}
 
--- what is kept of the bodies on a port, the newest first, but for the last report
+-- what is kept of the bodies on a port, the newest first, except for the last report
 abbrev pub heard_of : List Body → Heard
 heard_of bodies = record {
   answered = answered bodies;
@@ -14,7 +14,7 @@ heard_of bodies = record {
   is_fresh = is_some (fresh_report bodies);
 }
 
--- what is kept on each port is that of the bodies that the log has there
+-- `ports` has, for each port, what is kept of the bodies that the log has there
 pub record HasHeard (ports : Ports) (log : Log) : Type 0 where
   pub heard : (port : ℕ) → slice_index_or ports.heard port (heard_of []) ≡ heard_of (on_port port log)
   pub reports : (port : ℕ) → slice_index_or ports.reports port None ≡ last_report (on_port port log)

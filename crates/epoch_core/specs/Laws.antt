@@ -1,4 +1,4 @@
--- What the laws of one epoch at one life speak of.
+-- Notions for the theorems about one epoch at one life.
 
 use Rattle.std.specs.Prelude.{◌≡◌, ◌<◌, ℕ, suc, ⊤, List, [], ◌∷◌, Option, Some, None, if◌then◌else◌, IsTrue}
 use Rattle.std.specs.Ordering.{nat_cmp, ordering_then, is_le}
@@ -10,12 +10,12 @@ use Rattle.an_base.specs.declared.limits.TheConstants.{MOST_LEVEL}
 use Rattle.epoch_core.specs.Log.{CardOf, OnPort, Log, on_port, last_pos}
 use Rattle.epoch_core.specs.Epoch.{position, version, has_moved, is_stable}
 
--- how many items changed the position
+-- the number of items that changed the position
 abbrev pub moves : CardOf → Log → ℕ
 moves card [] = 0
 moves card (item ∷ log) = if has_moved card item log then suc (moves card log) else moves card log
 
--- how many topologies there are among bodies
+-- the number of topologies among the bodies
 abbrev pub topos : List Body → ℕ
 topos [] = 0
 topos (Pos pos ∷ bodies) = topos bodies
@@ -29,17 +29,17 @@ pub record IsSteady (card : CardOf) (item : OnPort) (log : Log) : Type 0 where
   pub version : version card (item ∷ log) ≡ version card log
   pub stable : is_stable card (item ∷ log) ≡ is_stable card log
 
--- one place is no greater than another
+-- position `one` is at most `other`
 abbrev pub IsAtMost : Place → Place → Type 0
 IsAtMost one other = IsTrue (is_le (position_cmp one other))
 
--- a later position told on a port offers no more than the one before: by root and then by level, and if
--- that one gave a place it gives one
+-- position `new` offers no more than `old`: its root and level, in this order, are at most those of `old`, and if
+-- `old` gave a position, so does `new`
 pub record OffersLess (old new : PosOf) : Type 0 where
   pub offer : IsTrue (is_le (ordering_then (life_cmp new.root old.root) (nat_cmp new.level old.level)))
   pub gives : old.level < MOST_LEVEL → new.level < MOST_LEVEL
 
--- None: no position was told before; only positions offer
+-- the body offers no more than the position before it, if there is one and the body is a position
 abbrev pub Lowers : Option PosOf → Body → Type 0
 Lowers None body = ⊤
 Lowers (Some old) (Pos new) = OffersLess old new

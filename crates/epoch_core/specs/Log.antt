@@ -5,19 +5,19 @@ use Rattle.an_base.specs.Values.{LifeId, PeerAt, EntryOf, PosOf}
 use Rattle.an_base.specs.declared.body.Body.{Body}
 use Rattle.an_base.specs.declared.body.Body.TheVariants.{Pos, Answer, Stable, Topo}
 
--- what is fixed when a life joins an epoch: the life, the number that it proposes for itself, and its links
--- by rising port
+-- what is fixed when a life joins an epoch: the life, the number that it proposes for itself, and its links in
+-- ascending order of port
 pub record CardOf : Type 0 where
   pub me : LifeId
   pub proposed : ℕ
   pub links : List PeerAt
 
--- a body, and the port on which it was accepted, or is sent
+-- a body, and the port on which it was accepted or is sent
 pub record OnPort : Type 0 where
   pub port : ℕ
   pub body : Body
 
--- what a life accepted in the epoch, the newest first: what it was at an earlier moment is a tail of it
+-- what a life accepted in the epoch, the newest first; a tail is what it had accepted at an earlier point in time
 abbrev pub Log : Type 0
 Log = List OnPort
 
@@ -26,8 +26,7 @@ abbrev pub on_port : ℕ → List OnPort → List Body
 on_port port [] = []
 on_port port (item ∷ items) = if item.port == port then item.body ∷ on_port port items else on_port port items
 
--- Of the bodies on one port, the newest first:
--- the last position
+-- the last position among the bodies on one port, the newest first
 abbrev pub last_pos : List Body → Option PosOf
 last_pos [] = None
 last_pos (Pos pos ∷ bodies) = Some pos
@@ -35,7 +34,7 @@ last_pos (Answer answer ∷ bodies) = last_pos bodies
 last_pos (Stable entries ∷ bodies) = last_pos bodies
 last_pos (Topo topo ∷ bodies) = last_pos bodies
 
--- whether the last position or answer says that the link is its sender's link to its parent
+-- whether the last position or answer among the bodies says that the link leads to its sender's parent
 abbrev pub is_claimed : List Body → Bool
 is_claimed [] = false
 is_claimed (Pos pos ∷ bodies) = pos.to_parent
@@ -43,7 +42,7 @@ is_claimed (Answer answer ∷ bodies) = answer.to_parent
 is_claimed (Stable entries ∷ bodies) = is_claimed bodies
 is_claimed (Topo topo ∷ bodies) = is_claimed bodies
 
--- the version that the last answer names
+-- the version that the last answer among the bodies names
 abbrev pub answered : List Body → Option ℕ
 answered [] = None
 answered (Pos pos ∷ bodies) = answered bodies
@@ -51,7 +50,7 @@ answered (Answer answer ∷ bodies) = Some answer.version
 answered (Stable entries ∷ bodies) = answered bodies
 answered (Topo topo ∷ bodies) = answered bodies
 
--- the last report
+-- the last report among the bodies
 abbrev pub last_report : List Body → Option (List EntryOf)
 last_report [] = None
 last_report (Pos pos ∷ bodies) = last_report bodies
@@ -59,7 +58,7 @@ last_report (Answer answer ∷ bodies) = last_report bodies
 last_report (Stable entries ∷ bodies) = Some entries
 last_report (Topo topo ∷ bodies) = last_report bodies
 
--- the last report, if it stands after the last position
+-- the last report among the bodies, if it came after the last position
 abbrev pub fresh_report : List Body → Option (List EntryOf)
 fresh_report [] = None
 fresh_report (Pos pos ∷ bodies) = None

@@ -1,4 +1,4 @@
--- What is kept of an epoch stands for the bodies that were accepted in it.
+-- What is kept of an epoch represents the bodies that were accepted in it.
 
 use Rattle.std.specs.Prelude.{◌≡◌, ℕ, ◌+◌, ◌≤◌, List, ◌∷◌, ◌++◌, map, Option, Bool}
 use Rattle.an_base.specs.Values.{Place, TopoOf}
@@ -23,7 +23,7 @@ pub record CoreOf : Type 0 where
 abbrev pub offers_of : CardOf → Log → OffersOf
 offers_of card log = record { me = card.me; links = card.links; offered = map (offer_on log) card.links }
 
--- what is kept is what the log gives
+-- `core` represents the log: it has what the log gives
 pub record StandsFor (core : CoreOf) (log : Log) : Type 0 where
   pub offers : core.offers ≡ offers_of core.card log
   pub ports : HasHeard core.ports log
@@ -32,8 +32,8 @@ pub record StandsFor (core : CoreOf) (log : Log) : Type 0 where
   pub stable : core.is_stable ≡ is_stable core.card log
   pub finish : core.finish ≡ finish core.card log
 
--- whatever the old core stood for, the new one stands for that with one more item, and what goes out gained
--- what the item adds
+-- whatever log `old` represented, `new` represents that log with one more item, and the bodies that the item adds
+-- were appended to what is to be sent
 pub record Accepts (old new : CoreOf) (item : OnPort) (before after : List OnPort) : Type 0 where
   pub card : new.card ≡ old.card
   pub epoch : new.epoch ≡ old.epoch

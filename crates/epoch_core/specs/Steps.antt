@@ -1,4 +1,4 @@
--- What one more body does to what is kept of an epoch, part by part: the private functions of the core.
+-- The effect of one more body on each part of what is kept of an epoch, used by the private functions of the core.
 
 use Rattle.std.specs.Prelude.{◌≡◌, suc, ⊤, List, [], ◌∷◌, ◌++◌, map, Option, Some, None, Bool, not}
 use Rattle.std.specs.Prelude.{if◌then◌else◌}
@@ -15,8 +15,7 @@ use Rattle.epoch_core.specs.Epoch.{reported_on, claiming_among, passed_on, posit
 use Rattle.epoch_core.specs.Heard.{HasHeard}
 use Rattle.epoch_core.specs.StandsFor.{CoreOf, StandsFor, offers_of}
 
--- once one more item is noted and the position follows it: whether the life is stable, and its finish, are
--- still those of before
+-- one more item is recorded and the position follows it, but stability and finish are still those before it
 pub record HasNoted (core : CoreOf) (item : OnPort) (log : Log) : Type 0 where
   pub offers : core.offers ≡ offers_of core.card (item ∷ log)
   pub ports : HasHeard core.ports (item ∷ log)
@@ -32,26 +31,27 @@ IsNoTopo (Answer answer) = ⊤
 IsNoTopo (Stable entries) = ⊤
 IsNoTopo (Topo topo) = ⊥
 
--- the position that the offers give, and whether it is another than the one kept
+-- the position that the offers give
 abbrev pub best_of : CoreOf → Place
 best_of core = position_of core.offers.me core.offers.links core.offers.offered
 
+-- whether the offers give another position than the one kept
 abbrev pub is_moved : CoreOf → Bool
 is_moved core = not (is_same (best_of core) core.position)
 
--- the position follows the offers
+-- the core with the position that the offers give
 abbrev pub repositioned : CoreOf → CoreOf
 repositioned core = record core {
   position = best_of core;
   version = if is_moved core then suc core.version else core.version;
 }
 
--- the new position on each link, if it is another
+-- the position that the offers give, on each link, if it differs from the one kept
 abbrev pub told_by : CoreOf → List OnPort
 told_by core = if is_moved core then positions_of (suc core.version) (best_of core) core.card.links else []
 
--- whatever item was noted, but a topology, the new core stands for the log with it, and what goes out gained
--- what comes of being stable
+-- whatever item was recorded, except for a topology, `new` represents the log with it, and the bodies that follow
+-- from being stable were appended to what is to be sent
 pub record Settles (old new : CoreOf) (before after : List OnPort) : Type 0 where
   pub card : new.card ≡ old.card
   pub epoch : new.epoch ≡ old.epoch
@@ -61,7 +61,7 @@ pub record Settles (old new : CoreOf) (before after : List OnPort) : Type 0 wher
   pub sends : (item : OnPort) (log : Log) → IsNoTopo item.body → HasNoted old item log
       → after ≡ before ++ (sent_up old.card item log ++ sent_down old.card item log)
 
--- the entry of a life that stands at the kept position
+-- the entry of the life at the kept position
 abbrev pub entry_of : CoreOf → EntryOf
 entry_of core = record {
   life = core.card.me;
@@ -70,22 +70,23 @@ entry_of core = record {
   links = core.card.links;
 }
 
--- the report and the numbering of what was kept of a log
+-- the report and its numbering, from what was kept of a log
 abbrev pub topology_by : CoreOf → Log → TopoOf
 topology_by core log =
     topology_of
     (report_of core.card.me (entry_of core ∷ flat_map (reported_on log) (claiming_among core.card.links log)))
 
--- a finish stays, and if there is none it becomes the report and its numbering, which goes to the links
--- that claim
+-- the topology that the core has finished with or, if there is none, the report and its numbering
 abbrev pub finish_or : CoreOf → Log → Option TopoOf
 finish_or core log = option_or core.finish (Some (topology_by core log))
 
+-- the bodies `down`, none if the core has finished already
 abbrev pub unless_finished : Option TopoOf → List OnPort → List OnPort
 unless_finished None down = down
 unless_finished (Some topo) down = []
 
--- what had not finished does, with the report of whatever log is kept; it goes to the links that claim
+-- a core that has not finished finishes with the report of whatever log it keeps, and sends it on the links that
+-- claim
 pub record FinishesAsRoot (old new : CoreOf) (before after : List OnPort) : Type 0 where
   pub rest : new ≡ record old { finish = new.finish }
   pub finish : (log : Log) → HasHeard old.ports log → new.finish ≡ finish_or old log

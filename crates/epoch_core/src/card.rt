@@ -1,4 +1,4 @@
-//! The part of a core that no body changes: entries for reports are made from it.
+//! The part of a core that no body changes. Entries for reports are made from it.
 
 ghost use Rattle.std.specs.Prelude.{◌≡◌, ◌≤◌};
 ghost use Rattle.an_base.specs.declared.limits.TheConstants.{MOST_NUMBER};
@@ -30,7 +30,7 @@ impl Model for Card {
 }
 
 impl Card {
-    /// A life, the number that it proposes for itself, 1 to 126, and its links.
+    /// Creates the card of life `me` with its `proposed` number, 1 to 126, and its links.
     pub fn new(me: Life, proposed: u8, links: &Links) -> Self
         requires least { 1 ≤ proposed }
         requires most { proposed ≤ MOST_NUMBER }
@@ -43,21 +43,21 @@ impl Card {
         }
     }
 
-    /// The life.
+    /// Returns the life.
     pub fn me(&self) -> Life
         ensures { result ≡ self.now.me }
     {
         self.me
     }
 
-    /// Its links by rising port.
+    /// Returns the links of the life, in ascending order of port.
     pub fn links(&self) -> &Links
         ensures { result.now ≡ self.now.links }
     {
         &self.links
     }
 
-    /// The entry of the life at this position.
+    /// Returns the entry of the life at `position`.
     pub fn entry(&self, position: Position) -> Entry
         ensures { result ≡ record { life = self.now.me; position = position; proposed = self.now.proposed; links = self.now.links } }
     {

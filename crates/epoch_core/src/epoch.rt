@@ -1,4 +1,4 @@
-//! The core of one epoch. A body is noted first; then position, stability and finish follow from what is noted.
+//! The core of one epoch. A body is recorded first; then position, stability and finish follow from the records.
 
 ghost use Rattle.std.specs.Prelude.{◌≡◌, ◌≤◌, ℕ, [], ◌∷◌, ◌++◌, map, OnOk, IfOk, None, Some, option_copied};
 ghost use Rattle.std.specs.List.{list_any, flat_map};
@@ -21,19 +21,22 @@ use an_base::body::{AnswerBody, Body, PosBody, TopoBody};
 use an_base::entry::Entries;
 use an_base::life::Life;
 use an_base::links::Links;
-use an_base::memory::OutOfMemory;
 use an_base::position::Position;
+use common_values::memory::OutOfMemory;
 use std::alloc::Global;
 use std::marker::Model;
 use switch_numbering::numbering::number;
 use tree_position::offers::Offers;
 
-/// The greatest version at which one more body may come. A version rises by at most one with each
-/// body, so fewer than 2^30 bodies never go beyond it.
+/// The highest version at which the core accepts one more body.
+///
+/// A body raises the version by at most one, so fewer than 2^30 bodies never exceed it.
 pub const MOST_VERSION: u32 = 1_073_741_824;
 
-/// One epoch at one life. It keeps one offer for each link, what it last heard on each port and
-/// what follows from these; the list of the bodies that it accepted stands in contracts alone.
+/// One epoch at one life.
+///
+/// It keeps one offer for each link, the last bodies of each kind on each port, and what follows from
+/// them. The list of all accepted bodies exists only in contracts.
 #[derive(Drop)]
 pub struct Core {
     alloc: Global,
@@ -58,7 +61,7 @@ impl Model for Core {
     ghost invariant = { λ c. 1 ≤ c.version };
 }
 
-// Whether one of the entries is of this life.
+// Reports whether one of the entries belongs to life `me`.
 fn is_among(me: Life, entries: &Entries) -> bool
     ensures { result ≡ list_any (λ e. is_eq (life_cmp e.life me)) entries.now }
 {
@@ -70,7 +73,7 @@ fn is_among(me: Life, entries: &Entries) -> bool
     false
 }
 
-// Tells a position of this version on each link, rising.
+// Sends a position of this version on each link, in ascending order of port.
 fn tell_position(
     version: u32,
     position: &Position,
@@ -90,10 +93,13 @@ fn tell_position(
 }
 
 impl Core {
-    /// A life joins an epoch with the number that it proposes for itself, 1 to 126, and its links. It
-    /// is its own root, which it tells on each link, rising. A life without links finishes at once.
-    /// The allocator is kept for what comes later. After want of memory the sends are only good to be
-    /// dropped.
+    /// Joins an epoch with a `proposed` number, 1 to 126, and with these links.
+    ///
+    /// The life starts as its own root, and sends this position on each link, in ascending order of port. A
+    /// life without links finishes at once. The core keeps `alloc` for later allocations.
+    ///
+    /// # Errors
+    /// `OutOfMemory` if an allocation fails. `sends` is then unspecified.
     pub fn join(
         alloc: Global,
         me: Life,
@@ -130,10 +136,14 @@ impl Core {
         Ok(core)
     }
 
-    /// Accepts a body on a port, 0 to 12, and sends what it calls for: the position on each link,
-    /// if it changed; then an answer, if the body is a position; then the report to the parent, if the
-    /// life is stable, was not before and is no root; then the topology to the links that claim, if
-    /// the life has finished now. After want of memory the core is only good to be dropped.
+    /// Accepts `body` on `port`, 0 to 12, and adds the bodies that it makes the life send to `sends`.
+    ///
+    /// They are: the position on each link, if it changed; then an answer, if the body is a position; then
+    /// the report to the parent, if the life has become stable and is no root; then the topology on the
+    /// links that claim, if the life finishes now. The version must be at most `MOST_VERSION`.
+    ///
+    /// # Errors
+    /// `OutOfMemory` if an allocation fails. The core and `sends` are then unspecified; drop the core.
     pub fn accept(&mut self, port: u8, body: Body, sends: &mut Sends) -> Result<(), OutOfMemory>
         requires port { port ≤ LAST_PORT }
         requires room { self.old.version ≤ MOST_VERSION }
@@ -153,14 +163,14 @@ impl Core {
         }
     }
 
-    /// The position in the spanning tree.
+    /// Returns the position in the spanning tree.
     pub fn position(&self) -> &Position
         ensures { (log : Log) → StandsFor self.now log → result.now ≡ position self.now.card log }
     {
         &self.position
     }
 
-    /// The version of the position, from 1.
+    /// Returns the version of the position, from 1.
     pub fn version(&self) -> u32
         ensures version { result ≡ self.now.version }
         ensures least { 1 ≤ self.now.version }
@@ -169,29 +179,31 @@ impl Core {
         self.version
     }
 
-    /// Whether each link has answered the present version, and each link that claims has reported
-    /// since its last position.
+    /// Reports whether the life is stable.
+    ///
+    /// It is if each link has answered the current version, and each link that claims has reported since its
+    /// last position.
     pub fn stable(&self) -> bool
         ensures { (log : Log) → StandsFor self.now log → result ≡ is_stable self.now.card log }
     {
         self.is_stable
     }
 
-    /// The topology with which the life has finished, none exactly if it has not.
+    /// Returns the topology that the life has finished with; `None` if and only if it has not finished.
     pub fn finish(&self) -> Option<&TopoBody>
         ensures { (log : Log) → StandsFor self.now log → option_copied result ≡ finish self.now.card log }
     {
         self.finish.as_ref()
     }
 
-    /// The epoch.
+    /// Returns the epoch.
     pub fn epoch(&self) -> u64
         ensures { result ≡ self.now.epoch }
     {
         self.epoch
     }
 
-    // Notes the offer of a position, and that its port has not reported since; follows it, and answers it.
+    // Records the offer of a position, and that its port has not reported since; then follows it, and answers it.
     fn accept_position(
         &mut self,
         port: u8,
@@ -212,7 +224,7 @@ impl Core {
         self.settle(sends)
     }
 
-    // Finishes with the first topology that names the life, and passes over any other.
+    // Finishes with the first topology that names the life, and ignores every other.
     fn accept_topo(&mut self, topo: TopoBody, sends: &mut Sends) -> Result<(), OutOfMemory>
         ensures { OnOk result ((port : ℕ) → Accepts self.old self.new (record { port = port; body = Topo topo }) sends.old sends.new) }
     {
@@ -225,7 +237,7 @@ impl Core {
         self.finish_with(topo, sends)
     }
 
-    // Takes the position that the offers give, and tells it if it changed.
+    // Takes the position that the offers give, and sends it if it changed.
     fn reposition(&mut self, sends: &mut Sends) -> Result<(), OutOfMemory>
         requires { self.old.version ≤ MOST_VERSION }
         ensures core { OnOk result (self.new ≡ repositioned self.old) }
@@ -240,7 +252,7 @@ impl Core {
         tell_position(self.version, &self.position, self.card.links(), sends)
     }
 
-    // Sees whether the life is stable, and does what comes of it.
+    // Computes whether the life is stable, and acts on it.
     fn settle(&mut self, sends: &mut Sends) -> Result<(), OutOfMemory>
         ensures { OnOk result (Settles self.old self.new sends.old sends.new) }
     {
@@ -282,7 +294,7 @@ impl Core {
         sends.push(Outgoing { port, body })
     }
 
-    // Finishes with the report and its numbering, if the life has not finished.
+    // Finishes with the report and its numbering, unless the life has finished.
     fn finish_as_root(&mut self, sends: &mut Sends) -> Result<(), OutOfMemory>
         ensures { OnOk result (FinishesAsRoot self.old self.new sends.old sends.new) }
     {

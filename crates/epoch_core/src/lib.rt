@@ -1,10 +1,11 @@
-//! One epoch at one life: from the bodies that it accepts on its links follow its position in the
-//! spanning tree, whether its part of the tree is stable, what it sends, and the topology with which
-//! it finishes.
+//! autonet, switch: one reconfiguration (epoch) at one switch.
 //!
-//! It stands on an_base, tree_position, topo_report and switch_numbering. Its contract: a `Core` that
-//! stands for the list of the bodies accepted so far stands, after one more, for the list with that
-//! one, and what it sends is what the definition adds for it, in that order.
+//! From the bodies that a life accepts on its links, it computes the position in the spanning tree, whether the
+//! life's part of the tree is stable, what the life sends, and the topology that it finishes with.
+//!
+//! It depends on `tree_position`, `topo_report` and `switch_numbering`. Its contract: a `Core` that represents the
+//! list of the accepted bodies represents, after one more body, the list with that body; and it sends what the
+//! definition adds for it, in that order.
 #![tactic(auto)]
 
 mod card;

@@ -1,4 +1,4 @@
-//! What one epoch keeps of each port: a few flags, the version last answered, and the last report.
+//! What one epoch keeps for each port: a few flags, the version last answered, and the last report.
 
 ghost use Rattle.std.specs.Prelude.{◌≡◌, ◌≤◌, ◌&&◌, ◌||◌, not, [], ◌∷◌, ◌++◌, map, OnOk, IfOk, option_copied};
 ghost use Rattle.std.specs.List.{list_all, flat_map};
@@ -13,11 +13,11 @@ use crate::sends::{Outgoing, Sends};
 use an_base::body::{AnswerBody, Body, PosBody, TopoBody};
 use an_base::entry::{Entries, Entry};
 use an_base::links::Links;
-use an_base::memory::OutOfMemory;
+use common_values::memory::OutOfMemory;
 use std::alloc::Global;
 use topo_report::report::Report;
 
-/// What is kept of the bodies accepted on one port, but for the last report.
+/// What is kept of the bodies accepted on one port, except for the last report.
 #[derive(Clone, Copy)]
 pub struct Heard {
     /// The version that the last answer names.
@@ -29,8 +29,8 @@ pub struct Heard {
 }
 
 impl Heard {
-    /// Whether the last answer names the version, and a link that claims has reported since its last
-    /// position.
+    /// Reports whether the last answer names `version` and, on a link that claims, a report came since the
+    /// last position.
     pub fn is_settled(self, version: u32) -> bool
         ensures { result ≡ (names self.answered version && (not self.is_claimed || self.is_fresh)) }
     {
@@ -41,7 +41,7 @@ impl Heard {
     }
 }
 
-// A port on which nothing came.
+// The record of a port on which nothing came.
 const NOTHING: Heard = Heard {
     answered: None,
     is_claimed: false,
@@ -51,14 +51,14 @@ const NOTHING: Heard = Heard {
 /// What is kept of the bodies accepted on each port, 0 to 12.
 #[derive(Drop)]
 pub struct Ports {
-    /// What is kept on each port, but for the last report.
+    /// The record of each port, except for the last report.
     pub heard: [Heard; 13],
     /// The last report on each port.
     pub reports: [Option<Entries>; 13],
 }
 
 impl Ports {
-    /// Nothing came on any port.
+    /// Creates the records of ports on which nothing came.
     pub fn new() -> Self
         ensures { HasHeard result [] }
     {
@@ -70,7 +70,7 @@ impl Ports {
         }
     }
 
-    /// A position came on a port, 0 to 12.
+    /// Records position `told` on `port`, 0 to 12.
     pub fn note_position(&mut self, port: u8, told: PosBody)
         requires { port ≤ LAST_PORT }
         ensures { (log : Log) → HasHeard self.old log → HasHeard self.new (record { port = port; body = Pos told } ∷ log) }
@@ -80,7 +80,7 @@ impl Ports {
         heard.is_fresh = false;
     }
 
-    /// An answer came on a port, 0 to 12.
+    /// Records `answer` on `port`, 0 to 12.
     pub fn note_answer(&mut self, port: u8, answer: AnswerBody)
         requires { port ≤ LAST_PORT }
         ensures { (log : Log) → HasHeard self.old log → HasHeard self.new (record { port = port; body = Answer answer } ∷ log) }
@@ -90,7 +90,7 @@ impl Ports {
         heard.is_claimed = answer.to_parent;
     }
 
-    /// A report came on a port, 0 to 12.
+    /// Records a report, `entries`, on `port`, 0 to 12.
     pub fn note_report(&mut self, port: u8, entries: Entries)
         requires { port ≤ LAST_PORT }
         ensures { (log : Log) → HasHeard self.old log → HasHeard self.new (record { port = port; body = Stable entries } ∷ log) }
@@ -115,8 +115,8 @@ impl Ports {
         self.reports[usize::from(port)].as_ref()
     }
 
-    /// Whether the last answer on each of the links names the version, and each of them that claims
-    /// has reported since its last position.
+    /// Reports whether, on each of the links, the last answer names `version` and, if the link claims, a
+    /// report came since the last position.
     pub fn are_settled(&self, links: &Links, version: u32) -> bool
         ensures { (log : Log) → HasHeard self.now log → result ≡ list_all (is_settled version log) links.now }
     {
@@ -128,7 +128,10 @@ impl Ports {
         true
     }
 
-    /// The report of a life that has this entry, with the last reports of the links that claim.
+    /// Returns the report that merges entry `own` with the last reports of the links that claim.
+    ///
+    /// # Errors
+    /// `OutOfMemory` if an allocation fails.
     pub fn report(&self, alloc: Global, own: Entry, links: &Links) -> Result<Report, OutOfMemory>
         ensures { (log : Log) → HasHeard self.now log → IfOk result (λ report. report ≡ record { me = own.life; entries = report_of own.life (own ∷ flat_map (reported_on log) (claiming_among links.now log)) }) }
     {
@@ -143,7 +146,10 @@ impl Ports {
         Ok(report)
     }
 
-    /// Sends a topology on the links that claim, rising.
+    /// Adds `topo` on each of the links that claim to `sends`, in ascending order of port.
+    ///
+    /// # Errors
+    /// `OutOfMemory` if an allocation fails. `sends` is then unspecified.
     pub fn pass_down(
         &self,
         alloc: Global,

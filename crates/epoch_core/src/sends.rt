@@ -1,7 +1,7 @@
-//! What a core wants to be sent. Sessions number these bodies and make frames of them.
+//! The bodies that a core sends. Sessions number them and make frames of them.
 
 use an_base::body::Body;
-use an_base::items::Items;
+use common_values::items::Items;
 use std::marker::Model;
 
 /// A body that goes out on a port.
@@ -9,7 +9,7 @@ use std::marker::Model;
 pub struct Outgoing {
     /// The own port, 1 to 12.
     pub port: u8,
-    /// What goes out.
+    /// The body.
     pub body: Body,
 }
 
@@ -21,5 +21,5 @@ impl Model for Outgoing {
     ghost view = { λ s. record { port = s.port; body = s.body } };
 }
 
-/// The bodies that go out, in their order.
+/// The bodies to be sent, in order.
 pub type Sends = Items<Outgoing>;

@@ -3,7 +3,7 @@ use Rattle.std.specs.Prelude.{is_some}
 use Rattle.an_base.specs.Values.{LifeId, Place, PeerAt, EntryOf, TopoOf}
 use Rattle.an_base.specs.declared.body.Body.{Body}
 use Rattle.an_base.specs.declared.body.Body.TheVariants.{Topo}
-use Rattle.an_base.proofs.ListLemmas.{some_is}
+use Rattle.common_values.proofs.ListLemmas.{some_is}
 use Rattle.tree_position.specs.Position.{self_root}
 use Rattle.topo_report.proofs.Members.{In, in_from}
 use Rattle.epoch_core.specs.Log.{CardOf, Log, on_port, is_claimed, answered}

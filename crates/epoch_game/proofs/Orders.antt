@@ -7,7 +7,7 @@ use Rattle.an_base.specs.Values.{LifeId, Place, PeerAt}
 use Rattle.an_base.specs.Order.{life_cmp, position_cmp}
 use Rattle.an_base.specs.TotalOrders.{life_total}
 use Rattle.an_base.proofs.OrderLaws.{position_total, position_apart}
-use Rattle.an_base.proofs.OrderingLemmas.{at_most, less_is, not_above, tied}
+use Rattle.common_values.proofs.OrderingLemmas.{at_most, less_is, not_above, tied}
 use Rattle.tree_position.specs.Position.{below_offer, lesser}
 use Rattle.epoch_core.specs.Laws.{IsAtMost}
 use Rattle.epoch_core.proofs.LessLemmas.{below_less}

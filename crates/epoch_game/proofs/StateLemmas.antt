@@ -5,7 +5,7 @@ use Rattle.std.proofs.lemmas.Bool.{cases_lt, lt-ltb, le-ltb, eqb-true, and_parts
 use Rattle.std.proofs.lemmas.Bool.Decides.{nat_tests}
 use Rattle.an_base.specs.Values.{LifeId, Place, PeerAt, EntryOf, PosOf}
 use Rattle.an_base.specs.declared.body.Body.{Body}
-use Rattle.an_base.proofs.ListLemmas.{some_is}
+use Rattle.common_values.proofs.ListLemmas.{some_is}
 use Rattle.tree_position.specs.Position.{self_root}
 use Rattle.topo_report.proofs.Members.{In}
 use Rattle.epoch_core.specs.Log.{CardOf, Log, on_port, last_pos, is_claimed, answered, fresh_report}

@@ -8,18 +8,18 @@ use Rattle.an_base.specs.declared.body.Body.{Body}
 use Rattle.epoch_core.specs.Log.{CardOf, Log, on_port}
 use Rattle.epoch_core.specs.Epoch.{sent}
 
--- Lists have the newest first. The one is what the other was at some moment, or is now: a tail of it.
+-- Lists have the newest first. The first list is what the second was at some point in time, or is now: a tail of
+-- it.
 abbrev pub Earlier : {A : Type 0} → List A → List A → Type 0
 Earlier moment [] = moment ≡ []
 Earlier moment (newest ∷ rest) = (moment ≡ newest ∷ rest) ⊎ Earlier moment rest
 
--- a life that joined an epoch: what was fixed then, and what it accepted since
+-- a life that joined an epoch: what was fixed then, and what it has accepted since
 pub record Node : Type 0 where
   pub card : CardOf
   pub log : Log
 
--- one epoch of the game: the node of each life that joined it. One that has not joined has neither links nor
--- a list.
+-- One epoch of the game: the node of each life that joined it. A life that has not joined has no links and no list.
 abbrev pub Slice : Type 0
 Slice = LifeId → Option Node
 
@@ -27,7 +27,7 @@ Slice = LifeId → Option Node
 abbrev pub nobody : Slice
 nobody life = None
 
--- no life has joined but these
+-- only these lives have joined
 abbrev pub IsJoinedBy : List LifeId → Slice → Type 0
 IsJoinedBy members state = (life : LifeId) (node : Node) → state life ≡ Some node → Contains members life
 
@@ -40,12 +40,12 @@ abbrev pub link_at : ℕ → List PeerAt → Option EndId
 link_at port [] = None
 link_at port (link ∷ rest) = if link.port == port then Some link.peer else link_at port rest
 
--- the life names a port of another as the far end of its own port
+-- the life with this card names a port of another as the far end of its own port
 abbrev pub Names : CardOf → ℕ → LifeId → ℕ → Type 0
 Names card port other other_port = link_at port card.links ≡ Some (record { life = other; port = other_port })
 
--- what a life may join with: its links by rising port, 1 to 12, and none to itself. The ends that they name
--- need not exist, nor name the life.
+-- what `life` can join with: its links in ascending order of port, 1 to 12, and none to itself. The ends that they
+-- name need not exist, nor name the life.
 pub record IsCardOf (life : LifeId) (card : CardOf) : Type 0 where
   pub me : card.me ≡ life
   pub ports : PortsRise card.links
@@ -53,9 +53,8 @@ pub record IsCardOf (life : LifeId) (card : CardOf) : Type 0 where
   pub most : All (λ link. link.port ≤ 12) card.links
   pub others : All (λ link. link.peer.life ≢ life) card.links
 
--- The lives and moves of an epoch: one of the lives joins with a card of its own, or accepts on a port the
--- next body of what another sent on the far one, if each names the other. A life that leaves only makes no
--- more moves.
+-- The lives and moves of an epoch: one of the lives joins with its own card, or accepts on a port the next body of
+-- what another sent on the far one, if each names the other. A life that leaves only makes no more moves.
 pub data Run (lives : List LifeId) (state : Slice) : Slice → Type 0 where
   none : Run lives state state
   joins : (later : Slice) (life : LifeId) (card : CardOf) → Run lives state later

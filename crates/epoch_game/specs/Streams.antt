@@ -1,5 +1,5 @@
--- What was accepted on a port is a beginning of what the far end sent there, and shows the far end as it was
--- at some moment.
+-- What was accepted on a port is a prefix, in order of time, of what the far end sent there, and shows the far end
+-- as it was at some point in time.
 
 use Rattle.std.specs.Prelude.{◌≡◌, ◌==◌, ◌≤◌, ◌⊎◌, ℕ, suc, List, [], ◌∷◌, Some, None, true, Contains}
 use Rattle.an_base.specs.Values.{LifeId, Place, EntryOf, PosOf, TopoOf}
@@ -9,7 +9,7 @@ use Rattle.epoch_core.specs.Log.{CardOf, Log, on_port, last_pos, is_claimed, ans
 use Rattle.epoch_core.specs.Epoch.{version, position, is_stable, report, finish, sent}
 use Rattle.epoch_game.specs.Slice.{Earlier, Node, Slice, Names, IsCardOf}
 
--- how many positions there are among bodies, and how many answers
+-- the number of positions among bodies, and the number of answers
 abbrev pub positions_in : List Body → ℕ
 positions_in [] = 0
 positions_in (Pos told ∷ bodies) = suc (positions_in bodies)
@@ -24,13 +24,13 @@ answers_in (Answer told ∷ bodies) = suc (answers_in bodies)
 answers_in (Stable entries ∷ bodies) = answers_in bodies
 answers_in (Topo topology ∷ bodies) = answers_in bodies
 
--- what a life tells of a version, by its number, and of a place on one of its ports
+-- the position that a life sends on one of its ports for a version, by its number, and a place
 abbrev pub told_on : ℕ → Place → ℕ → PosOf
 told_on number place own_port =
     record { version = number; root = place.root; level = place.level; to_parent = (own_port == place.port) }
 
--- the report was that of the life at a stable moment up to this one, in the same version, when the port was
--- the one to its parent
+-- `entries` was the report of the life at a stable point in time up to `until`, in the same version, when
+-- `own_port` led to its parent
 pub record ReportsFrom (card : CardOf) (own_port : ℕ) (until : Log) (entries : List EntryOf) : Type 0 where
   pub moment : Log
   pub earlier : Earlier moment until
@@ -39,8 +39,8 @@ pub record ReportsFrom (card : CardOf) (own_port : ℕ) (until : Log) (entries :
   pub report : entries ≡ report card moment
   pub port : (position card moment).port ≡ own_port
 
--- the last answer is to the position that the life had last heard on the port at a moment up to this one, and
--- there are as many answers as it had heard positions there then
+-- the last answer is to the position that the life had last heard on `own_port` at a point in time up to `until`,
+-- and there are as many answers as it had heard positions there then
 pub record AnswersFrom (card : CardOf) (own_port : ℕ) (until : Log) (heard : List Body) : Type 0 where
   pub moment : Log
   pub told : PosOf
@@ -50,26 +50,26 @@ pub record AnswersFrom (card : CardOf) (own_port : ℕ) (until : Log) (heard : L
   pub last : last_pos (on_port own_port moment) ≡ Some told
   pub answered : answered heard ≡ Some told.version
 
--- no answer
+-- there is no answer in `heard`
 pub record HasNoAnswer (heard : List Body) : Type 0 where
   pub count : answers_in heard ≡ 0
   pub answered : answered heard ≡ None
 
--- what was heard of a life, which sent it on this port, shows the life as it was at a moment
+-- `heard`, which a life sent on `own_port`, shows the life as it was at `moment`
 pub record Shows (card : CardOf) (own_port : ℕ) (moment : Log) (heard : List Body) : Type 0 where
-  -- the last position is that of the moment, and there are as many positions as its version says
+  -- the last position is that of `moment`, and there are as many positions as the version then says
   pub count : positions_in heard ≡ version card moment
   pub place : last_pos heard ≡ Some (told_on (version card moment) (position card moment) own_port)
-  -- whether it claims is whether the port is the one to its parent
+  -- the life claims if and only if its port leads to its parent
   pub claimed : is_claimed heard ≡ (own_port == (position card moment).port)
   pub report : (entries : List EntryOf) → fresh_report heard ≡ Some entries
       → ReportsFrom card own_port moment entries
   pub answer : HasNoAnswer heard ⊎ AnswersFrom card own_port moment heard
-  -- a topology is what it finished with
+  -- a topology that was heard is the one with which the life finished
   pub topology : (topology : TopoOf) → Contains heard (Topo topology) → finish card moment ≡ Some topology
 
--- what a life accepted on a port was sent: the far end has joined, each names the other, and what was
--- accepted is the beginning of what the far end sent there
+-- what `life` accepted on a port was sent: the far end has joined, each names the other, and what was accepted is
+-- the beginning of what the far end sent there
 pub record WasSent (state : Slice) (life : LifeId) (own : Node) (own_port : ℕ) (heard : List Body)
     : Type 0 where
   pub far : LifeId
@@ -80,7 +80,7 @@ pub record WasSent (state : Slice) (life : LifeId) (own : Node) (own_port : ℕ)
   pub back : Names node.card port life own_port
   pub earlier : Earlier heard (sent node.card port node.log)
 
--- and it shows the far end as it was at some moment
+-- what `life` accepted on a port shows the far end as it was at some point in time
 pub record ShowsFar (state : Slice) (life : LifeId) (own : Node) (own_port : ℕ) (heard : List Body)
     : Type 0 where
   pub far : LifeId
@@ -93,21 +93,21 @@ pub record ShowsFar (state : Slice) (life : LifeId) (own : Node) (own_port : ℕ
   pub earlier : Earlier moment node.log
   pub shows : Shows node.card port moment heard
 
--- the answer names the version that has its number among those on its port, and the life has had that version
+-- `answered_version` is the number of answers in `heard`, and the life has had that version
 pub record NamesItsNumber (node : Node) (heard : List Body) (answered_version : ℕ) : Type 0 where
   pub number : answered_version ≡ answers_in heard
   pub had : answered_version ≤ version node.card node.log
 
--- What holds of the streams of an epoch, at every moment of each life that has joined:
+-- What holds of the streams of an epoch, at every point in time of each life that has joined:
 pub record HasStreams (lives : List LifeId) (state : Slice) : Type 0 where
-  -- it is one of the lives, and has a card of its own
+  -- a life that has joined is one of the lives, and has its own card
   pub nodes : (life : LifeId) (node : Node) → state life ≡ Some node
       → IsCardOf life node.card × Contains lives life
   -- what it accepted on a port is a beginning of what the far end sent there
   pub accepted : (life : LifeId) (node : Node) (port : ℕ) (moment : Log) → state life ≡ Some node
       → Earlier moment node.log
       → (on_port port moment ≡ []) ⊎ WasSent state life node port (on_port port moment)
-  -- and shows the far end as it was at some moment
+  -- what it accepted on a port shows the far end as it was at some point in time
   pub shown : (life : LifeId) (node : Node) (port : ℕ) (moment : Log) → state life ≡ Some node
       → Earlier moment node.log
       → (on_port port moment ≡ []) ⊎ ShowsFar state life node port (on_port port moment)

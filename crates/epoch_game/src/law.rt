@@ -1,4 +1,4 @@
-//! What holds in every state of the game, of each epoch of it, and of all that it may still do.
+//! Theorems about every state of the game, each epoch of it, and all moves that can still follow.
 
 ghost use Rattle.std.specs.Prelude.{◌≡◌, ◌≤◌, ℕ, List, Some, true, length, Contains};
 ghost use Rattle.an_base.specs.Values.{LifeId, EntryOf, TopoOf};
@@ -13,24 +13,24 @@ ghost use Rattle.epoch_game.specs.Detection.{Reached, IsDetected, FinishedUnder}
 ghost use Rattle.epoch_game.specs.Delivered.{IsDelivered, HasEnded};
 ghost use Rattle.epoch_game.specs.Game.{Game, slice, begins, Play, HasFinished, IsDetectedIn};
 
-/// In every run of an epoch each life that has joined has a card of its own, and what it has accepted
-/// on a port was sent there by the far end, each naming the other. What was accepted up to a moment
-/// shows the far end as it was at some moment: its version and position, whether the link is the one
-/// to its parent, the report of a stable moment of that version, the last position that it answered,
-/// and the topology with which it finished. The last answer names the version that has its number.
+/// In every run of an epoch each life that has joined has its own card, and the far end sent what the life has
+/// accepted on a port; each names the other. What was accepted up to a point in time shows the far end as it was at
+/// some point in time: its version and position, whether the link leads to its parent, its report when it was
+/// stable in that version, the last position that it answered, and the topology with which it finished. The last
+/// answer names the version that has its number.
 pub fn streams_show_their_senders()
     ensures { (lives : List LifeId) (state : Slice) → Run lives nobody state → HasStreams lives state }
 {}
 
-/// From then on a life that has joined keeps its card, and its list only grows.
+/// Later, a life that has joined keeps its card, and its list only grows.
 pub fn lists_only_grow()
     ensures { (lives : List LifeId) (state later : Slice) (life : LifeId) (node : Node)
         → Run lives state later → state life ≡ Some node → HasGrown later life node }
 {}
 
-/// The lives of a run are those that may join. Each that has joined is one of them, and a run in which no
-/// others than some have joined is a run of these alone. So the 126 lives of the laws below are those that
-/// join the epoch, however many there are in all.
+/// The lives of a run are those that can join. Each life that has joined is one of them. If no life outside
+/// `members` has joined, the run is also a run of `members`. So the 126 lives of the theorems below are those that
+/// join the epoch, however many there are in total.
 pub fn a_run_is_of_those_that_join()
     ensures members { (lives members : List LifeId) (state later : Slice)
         → Run lives state later → IsJoinedBy members later → Run members state later }
@@ -38,45 +38,45 @@ pub fn a_run_is_of_those_that_join()
         → Run lives nobody state → IsJoinedBy lives state }
 {}
 
-/// In every run of at most 126 lives the position of a life only gets less, is never above what the last
-/// offer on a link gives, of whatever level, and is never taken again once left; and one life more than
-/// its level says had its root at that level or a lesser one.
+/// In every run of at most 126 lives the position of a life only falls, is never above what the last offer on a
+/// link gives, whatever its level, and never returns once left; and one life more than its level says had its root
+/// at that level or a lower one.
 pub fn positions_only_improve()
     ensures { (lives : List LifeId) (state : Slice)
         → length lives ≤ 126 → Run lives nobody state → OnlyImproves state }
 {}
 
-/// In every run of at most 126 lives a life that is stable stays so while its version stays. Who was not
-/// stable when it had another life as root last has one above it that was not either when it had that
-/// root last. If some life has left a root, some one of those that left it was never stable in its
-/// last version with it. So nobody leaves a life that was once stable with itself as root, and whoever
-/// ever had it as root is stable.
+/// In every run of at most 126 lives a stable life stays stable while its version stays. If a life was not stable
+/// when it last had another life as root, then a life above it was not stable when that life last had the root. If
+/// some life has left a root, then some life that left the root was never stable in its last version with it. So
+/// nobody leaves a life that was once stable with itself as root, and every life that ever had such a root is
+/// stable.
 pub fn nobody_leaves_a_stable_root()
     ensures { (lives : List LifeId) (state : Slice)
         → length lives ≤ 126 → Run lives nobody state → NobodyLeaves state }
 {}
 
-/// In every run of at most 126 lives the report of a stable life has its own entry, and otherwise
-/// entries that lives had under its root. In its present version it has the present entry of each life
-/// whose present positions lead to it.
+/// In every run of at most 126 lives the report of a stable life has its own entry; every other entry is one that a
+/// life had under the same root. A report of the present version has the present entry of each life whose present
+/// positions lead to the reporting life.
 pub fn reports_are_true()
     ensures { (lives : List LifeId) (state : Slice)
         → length lives ≤ 126 → Run lives nobody state → ReportsAreTrue state }
 {}
 
-/// In every run of at most 126 lives, once a life is stable with itself as root: each life that is
-/// reached from it over links has joined, with each of its links named at both ends; it has its place
-/// in the spanning tree, is stable, and neither ever changes again; the root's report has the entry
-/// of each of them and no other; and each topology that reaches one of them is that report with its
-/// numbering. No other life is ever reached from it.
+/// In every run of at most 126 lives, once `root_life` is stable with itself as root: each life that is reached
+/// from it over links has joined, with each of its links named at both ends; it has its place in the spanning tree,
+/// is stable, and neither ever changes again; the root's report has the entry of each of these lives and no other;
+/// and each topology that reaches one of them is that report with its numbering. No other life is ever reached from
+/// `root_life`.
 pub fn a_stable_root_detects_the_end()
     ensures { (lives : List LifeId) (state : Slice) (root_life : LifeId)
         → length lives ≤ 126 → Run lives nobody state → WasStableRoot state root_life
         → IsDetected lives state root_life }
 {}
 
-/// In every run of at most 126 lives, whoever has finished holds the report and numbering of a life
-/// that was stable with itself as root, and is reached from it.
+/// In every run of at most 126 lives, a life that has finished holds the report and numbering of a life that was
+/// stable with itself as root, and is reached from it.
 pub fn a_finish_comes_from_a_stable_root()
     ensures { (lives : List LifeId) (state : Slice) (life : LifeId) (node : Node) (topology : TopoOf)
         → length lives ≤ 126 → Run lives nobody state
@@ -114,17 +114,17 @@ pub fn a_finish_is_a_tree()
         → IsGraph topology.entries × IsTree topology.entries }
 {}
 
-/// In every run of at most 126 lives, if each life that is reached from one over links has joined, with
-/// each of its links named at both ends, and has accepted all that was sent to it: one of them is
-/// stable with itself as root, all are stable in their places in the tree of shortest walks to it, and
-/// each has finished with one topology, whose entries are those of these lives and no other.
+/// In every run of at most 126 lives, suppose that each life that is reached from `life` over links has joined,
+/// with each of its links named at both ends, and has accepted all that was sent to it. Then one of them is stable
+/// with itself as root, all are stable in their places in the tree of shortest walks to it, and each has finished
+/// with one topology, whose entries are those of these lives and no other.
 pub fn a_delivered_component_has_finished()
     ensures { (lives : List LifeId) (state : Slice) (life : LifeId)
         → length lives ≤ 126 → Run lives nobody state → IsDelivered state life → HasEnded lives state life }
 {}
 
-/// What the game of all epochs does is a run of each epoch, in which a life that has left makes no more
-/// moves. So the laws of an epoch hold in each epoch of every state of the game, and from each such state on.
+/// The moves of the game form a run of each epoch, in which a life that has left makes no more moves. So the
+/// theorems about an epoch hold in each epoch of every state of the game, and from each such state on.
 pub fn each_epoch_is_a_run()
     ensures reached { (lives : List LifeId) (first : LifeId → ℕ) (game : Game) (epoch : ℕ)
         → Play lives (begins first) game → Run lives nobody (slice epoch game) }
@@ -133,10 +133,10 @@ pub fn each_epoch_is_a_run()
         → Run lives (slice epoch game) (slice epoch later) }
 {}
 
-/// In every state of the game, and in each epoch that at most 126 lives have joined, however many there are
-/// in all: once a life is stable with itself as root, all that is said above of the lives reached from it
-/// holds. As long as no others join the epoch than these 126, nothing that the game still does changes which
-/// lives are reached, nor the version or the position of one of them.
+/// In every state of the game, and in each epoch that at most 126 lives have joined, however many there are in
+/// total: once a life is stable with itself as root, all that is said above of the lives reached from it holds. As
+/// long as only these 126 join the epoch, no later move changes which lives are reached, nor the version or the
+/// position of one of them.
 pub fn termination_is_detected()
     ensures { (lives members : List LifeId) (first : LifeId → ℕ) (game : Game) (epoch : ℕ)
         (root_life : LifeId)
@@ -145,7 +145,7 @@ pub fn termination_is_detected()
         → IsDetectedIn lives members game epoch root_life }
 {}
 
-/// In every state of the game, who has loaded in an epoch has finished there.
+/// In every state of the game, a life that has loaded in an epoch has finished there.
 pub fn who_has_loaded_has_finished()
     ensures { (lives : List LifeId) (first : LifeId → ℕ) (game : Game) (life : LifeId) (epoch : ℕ)
         → Play lives (begins first) game → game.loaded life epoch ≡ true → HasFinished game life epoch }

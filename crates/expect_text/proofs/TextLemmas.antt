@@ -5,8 +5,8 @@ use Rattle.std.proofs.lemmas.List.{take_more, map-append, get_or_push, get_or_ap
 use Rattle.std.proofs.lemmas.List.Elements.{All-push}
 use Rattle.std.proofs.lemmas.Grind.{flat_map-append}
 use Rattle.an_base.specs.Values.{EntryOf}
-use Rattle.text_lines.specs.Lines.{line_text}
-use Rattle.text_lines.proofs.FormTexts.{text_push, go_on}
+use Rattle.common_lines.specs.Lines.{line_text}
+use Rattle.common_lines.proofs.FormTexts.{text_push, go_on}
 use Rattle.net_script.specs.Scripts.{ScriptOf}
 use Rattle.row_text.specs.TableForms.{TableForm, EndLine, table_words}
 use Rattle.switch_numbering.specs.Numbering.{numbering}

@@ -1,8 +1,8 @@
-//! What is expected of a script.
+//! Prints what a script's switches should agree on.
 
 ghost use Rattle.std.specs.Prelude.{◌≡◌, ◌≤◌, ◌++◌, List, All, length, map, IfOk, OnOk};
 ghost use Rattle.std.specs.List.{zip};
-ghost use Rattle.text_lines.specs.Lines.{line_text};
+ghost use Rattle.common_lines.specs.Lines.{line_text};
 ghost use Rattle.row_text.specs.TableForms.{table_words};
 ghost use Rattle.switch_numbering.specs.Numbering.{numbering};
 ghost use Rattle.table_build.specs.Routing.{IsRouting};
@@ -12,8 +12,9 @@ ghost use Rattle.row_text.specs.TableForms.{table_text};
 ghost use Rattle.row_text.specs.Rows.{table_forms};
 
 use an_base::entry::{Entries, Entry};
-use an_base::memory::OutOfMemory;
 use an_base::numbers::Numbers;
+use common_lines::spelling::push_line;
+use common_values::memory::OutOfMemory;
 use itoa::Buffer;
 use net_graph::forest::trees;
 use net_script::script::Script;
@@ -24,7 +25,6 @@ use std::alloc::Global;
 use switch_numbering::numbering::number;
 use table_build::routing::Routing;
 use table_build::table::Table;
-use text_lines::spelling::push_line;
 use topo_graph::graph::Graph;
 
 // Appends the line of a member: its level and, below the root, its parent and its port to it.
@@ -93,7 +93,7 @@ fn push_numbers(
     Ok(())
 }
 
-// Appends the lines of the tables of the members, from what these share.
+// Appends the lines of the tables of the members, which share this graph, these numbers and this routing.
 fn push_shared(
     lives: &Lives,
     text: &mut Vec<u8>,
@@ -189,11 +189,16 @@ fn text_of(lives: &Lives, forest: &[Entries], any: bool) -> Result<Vec<u8>, OutO
     Ok(text)
 }
 
-/// What is expected of the script's network with all links up: for each component, by rising root,
-/// its root and how many members it has; for each member by rising life its level and, below the
-/// root, its parent and its port to it; the number of each member; for each member and each entry,
-/// 0 and the ports with a link, the row with the exits to each other member by rising number; last
-/// `end`. Each line ends in a line feed.
+/// Returns what the switches of the script's network should agree on, with all links up.
+///
+/// For each component, in ascending order of its root, the lines are: its root and the number of its
+/// members; for each member, in ascending order of life, its level and, below the root, its parent and
+/// its port to the parent; the number of each member; for each member and each entry, 0 and the ports
+/// with a link, the row with the exits to each other member, in ascending order of number. The last
+/// line is `end`. Each line ends in a line feed.
+///
+/// # Errors
+/// `OutOfMemory` if an allocation fails.
 pub fn expect(alloc: Global, script: &Script) -> Result<Vec<u8>, OutOfMemory>
     ensures { IfOk result (λ text. IsExpectOf script.now text.items) }
 {

@@ -1,9 +1,10 @@
-//! The text of `expect`: what is expected of a script's network.
+//! autonet, table texts: output of `expect`.
 //!
-//! It stands on the wiring's trees, on numbers and routing tables, and on how rows stand in a text.
+//! It says what the switches of a script's network should agree on: spanning trees, numbers and tables.
 //!
-//! Its contract: the text has the trees of the script's wiring, the numbers of their members and the tables of
-//! these; and a script has one such text.
+//! It depends on the wiring's trees, on numbers and routing tables, and on how `row_text` prints rows. Its contract:
+//! the text has the trees of the script's wiring, the numbers of their members, and the members' tables; and a
+//! script has only one such text.
 #![tactic(auto)]
 
 pub mod expect;

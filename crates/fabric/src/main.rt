@@ -1,25 +1,26 @@
-//! The program: it reads its words and makes the one call of `ib_calls`, over the files that they name and the
-//! standard streams.
+//! fabric, commands: the program `fabric`. It reads its arguments and makes the one call of `fabric_commands`, with the
+//! files that they name and the standard streams.
 //!
-//! It has no contract of its own: what it prints, and its status, are those of the call.
+//! It has no contract of its own: its output and its exit status are those of the call.
 #![tactic(auto)]
 
-use an_base::memory::OutOfMemory;
-use an_base::text::Word;
-use calling::words::words_of_call;
-use ib_answering::status::{Status, finish};
-use ib_calls::fabric::fabric;
-use ib_judging::input::Input;
-use ib_judging::words::file_of;
+use common_call::words::words_of_call;
+use common_values::memory::OutOfMemory;
+use common_values::text::Word;
+use fabric_call::status::{Status, finish};
+use fabric_commands::fabric::fabric;
+use fabric_judge_call::input::Input;
+use fabric_judge_call::words::{call_of, file_of};
 use outside::standard::{StdSink, StdSource};
 use std::process::ExitCode;
 
 // Answers the words over the files that they name.
 fn answer(rt: &HostRuntime, words: &[Word]) -> u8 {
-    let mut topology = StdSource::new(Input::named(rt, rt.stdin(), file_of(words, 0)));
-    let mut tables = StdSource::new(Input::named(rt, rt.stdin(), file_of(words, 1)));
-    let mut third = StdSource::new(Input::named(rt, rt.stdin(), file_of(words, 2)));
-    let mut fourth = StdSource::new(Input::named(rt, rt.stdin(), file_of(words, 3)));
+    let call = call_of(words);
+    let mut topology = StdSource::new(Input::named(rt, rt.stdin(), file_of(words, call, 0)));
+    let mut tables = StdSource::new(Input::named(rt, rt.stdin(), file_of(words, call, 1)));
+    let mut third = StdSource::new(Input::named(rt, rt.stdin(), file_of(words, call, 2)));
+    let mut fourth = StdSource::new(Input::named(rt, rt.stdin(), file_of(words, call, 3)));
     let mut out = StdSink::new(rt.stdout());
     let mut err = StdSink::new(rt.stderr());
     fabric(

@@ -7,8 +7,8 @@ use Rattle.std.proofs.lemmas.List.{get_or-replicate, length-replicate}
 use Rattle.std.proofs.lemmas.List.FromFn.{fill_by_all}
 use Rattle.an_base.specs.declared.event.Event.{Event}
 use Rattle.net_script.specs.Scripts.{ScriptOf, IsScript}
-use Rattle.fabric_state.specs.Fabric.{FabricOf}
-use Rattle.fabric_state.specs.Starts.{begun_fabric}
+use Rattle.net_state.specs.Fabric.{FabricOf}
+use Rattle.net_state.specs.Starts.{begun_fabric}
 use Rattle.fabric_book.specs.Kept.{IsKept}
 use Rattle.fabric_book.proofs.BookLemmas.{begun_kept, kept_as}
 

@@ -3,7 +3,7 @@
 use Rattle.std.specs.Prelude.{◌≡◌, ◌⊎◌, ◌+◌, ◌-◌, ◌^◌, ◌&&◌, not, ◌==◌, ◌<◌, ◌≤◌, ℕ, List, [], ◌∷◌, ◌++◌, map, length, nat_lt, slice_index_or, slice_set, cond, Option, Some, None, option_to_list, Bool, true, false, refl}
 use Rattle.std.specs.List.{range_with_len}
 use Rattle.std.proofs.Common.{sym, ◌∙◌, ap, subst, arith, true≢false, length-append, eq-eqb, ne_eqb, inl, inr}
-use Rattle.fabric_state.proofs.FitsLemmas.{switch_below}
+use Rattle.net_state.proofs.FitsLemmas.{switch_below}
 use Rattle.std.proofs.lemmas.Bool.{and_parts, cases_eq}
 use Rattle.std.proofs.lemmas.List.{append-nil, get_or-set_other, get_or-set_same, length-set}
 use Rattle.std.proofs.lemmas.List.FromFn.{fill_by_all, get_or-map-range_with_len, length-map-range_with_len}
@@ -20,33 +20,33 @@ use Rattle.switch_core.specs.Bytes.{BytesOut}
 use Rattle.switch_core.specs.Steps.{loaded}
 use Rattle.switch_core.specs.Switch.{finish_of, note_of}
 use Rattle.switch_core.specs.declared.switch.TableFor.{TableFor}
-use Rattle.fabric_state.specs.Fabric.{FabricOf, clock_due_at, count, full_hands, has_frame, is_external, is_full_at, is_some_spent, is_switch, places, samples_of, station, life_of}
-use Rattle.fabric_state.specs.Fabric.{room as room_of}
-use Rattle.fabric_state.specs.declared.hand.Hand.{Hand}
-use Rattle.fabric_state.specs.declared.hand.Hand.TheVariants as hand
-use Rattle.fabric_state.specs.declared.work.Work.{Work}
-use Rattle.fabric_state.specs.declared.work.Work.TheVariants as work
-use Rattle.fabric_state.specs.declared.work.Why.TheVariants as why
-use Rattle.fabric_state.specs.Choices.{event_of_work, frame_work, next_port, next_work}
-use Rattle.fabric_state.specs.Lawful.{is_lawful, is_command}
-use Rattle.fabric_state.specs.Effects.{after_clock, after_command, after_handle, after_load, after_move, after_restart, after_take, after_tick}
-use Rattle.fabric_state.specs.Effects.{ShowsOnly, all_put_out, emptied, shows}
-use Rattle.fabric_state.specs.Starts.{begun_fabric, next_life_at, next_note_at, started_note}
-use Rattle.fabric_state.specs.Fits.{Fits, IsHandPort}
-use Rattle.fabric_world.specs.World.{WorldOf, effect, handled, loads_with, next_life, step, table_for, world_after}
-use Rattle.fabric_world.specs.Histories.{HistoryOf, IsLawful, fabric_of, last_port, last_taken, with_event, world_of}
-use Rattle.fabric_world.specs.Sound.{AllMayCome}
-use Rattle.fabric_world.specs.Turns.{Handled, HasBytes, IsToLoad, IsTold, TakesWork}
-use Rattle.fabric_world.specs.Turns.{Drives}
-use Rattle.fabric_state.specs.declared.work.Drive.{Drive}
-use Rattle.fabric_state.specs.declared.work.Drive.TheVariants as drive
-use Rattle.fabric_state.specs.Choices.{next_drive}
-use Rattle.fabric_state.specs.declared.line.Line.{Line}
-use Rattle.fabric_state.specs.declared.line.PlacedLine.{PlacedLine}
-use Rattle.fabric_world.specs.Accounts.{placed, placed_lines}
-use Rattle.fabric_state.specs.Lines.{command_lines, move_lines, take_lines}
+use Rattle.net_state.specs.Fabric.{FabricOf, clock_due_at, count, full_hands, has_frame, is_external, is_full_at, is_some_spent, is_switch, places, samples_of, station, life_of}
+use Rattle.net_state.specs.Fabric.{room as room_of}
+use Rattle.net_state.specs.declared.hand.Hand.{Hand}
+use Rattle.net_state.specs.declared.hand.Hand.TheVariants as hand
+use Rattle.net_state.specs.declared.work.Work.{Work}
+use Rattle.net_state.specs.declared.work.Work.TheVariants as work
+use Rattle.net_state.specs.declared.work.Why.TheVariants as why
+use Rattle.net_state.specs.Choices.{event_of_work, frame_work, next_port, next_work}
+use Rattle.net_state.specs.Lawful.{is_lawful, is_command}
+use Rattle.net_state.specs.Effects.{after_clock, after_command, after_handle, after_load, after_move, after_restart, after_take, after_tick}
+use Rattle.net_state.specs.Effects.{ShowsOnly, all_put_out, emptied, shows}
+use Rattle.net_state.specs.Starts.{begun_fabric, next_life_at, next_note_at, started_note}
+use Rattle.net_state.specs.Fits.{Fits, IsHandPort}
+use Rattle.net_world.specs.World.{WorldOf, effect, handled, loads_with, next_life, step, table_for, world_after}
+use Rattle.net_world.specs.Histories.{HistoryOf, IsLawful, fabric_of, last_port, last_taken, with_event, world_of}
+use Rattle.net_world.specs.Sound.{AllMayCome}
+use Rattle.net_world.specs.Turns.{Handled, HasBytes, IsToLoad, IsTold, TakesWork}
+use Rattle.net_world.specs.Turns.{Drives}
+use Rattle.net_state.specs.declared.work.Drive.{Drive}
+use Rattle.net_state.specs.declared.work.Drive.TheVariants as drive
+use Rattle.net_state.specs.Choices.{next_drive}
+use Rattle.net_state.specs.declared.line.Line.{Line}
+use Rattle.net_state.specs.declared.line.PlacedLine.{PlacedLine}
+use Rattle.net_world.specs.Accounts.{placed, placed_lines}
+use Rattle.net_state.specs.Lines.{command_lines, move_lines, take_lines}
 use Rattle.host_traffic.specs.Packets.{packet_of}
-use Rattle.fabric_world.specs.Lines.{all_lines, lines_of}
+use Rattle.net_world.specs.Lines.{all_lines, lines_of}
 use Rattle.fabric_book.specs.Kept.{HasSamples, IsKept, history_with}
 use Rattle.fabric_book.proofs.HandLemmas.{hand_port, shows_only}
 use Rattle.fabric_book.proofs.TellLemmas.{command_told}

@@ -7,29 +7,29 @@ use Rattle.std.proofs.lemmas.List.Elements.{All-head}
 use Rattle.net_script.specs.Scripts.{ScriptOf, IsScript}
 use Rattle.std.specs.Global.{Box}
 use Rattle.fabric_turn.specs.History.{AppendsAtMostOne}
-use Rattle.fabric_world.specs.declared.ask.Reply.{Reply}
-use Rattle.fabric_world.specs.declared.ask.Sheet.{Sheet}
-use Rattle.fabric_world.specs.Histories.{HistoryOf, IsLawful, fabric_of, owner_of}
-use Rattle.fabric_world.specs.Sound.{AllMayCome}
-use Rattle.fabric_state.specs.declared.line.PlacedLine.{PlacedLine}
-use Rattle.fabric_world.specs.Turns.{Drives, LoadsOrNot}
-use Rattle.fabric_world.specs.World.{world_after}
+use Rattle.net_world.specs.declared.ask.Reply.{Reply}
+use Rattle.net_world.specs.declared.ask.Sheet.{Sheet}
+use Rattle.net_world.specs.Histories.{HistoryOf, IsLawful, fabric_of, owner_of}
+use Rattle.net_world.specs.Sound.{AllMayCome}
+use Rattle.net_state.specs.declared.line.PlacedLine.{PlacedLine}
+use Rattle.net_world.specs.Turns.{Drives, LoadsOrNot}
+use Rattle.net_world.specs.World.{world_after}
 use Rattle.an_base.specs.declared.event.Event.{Event}
 use Rattle.an_base.specs.declared.event.Event.TheVariants.{Tick, Clock, Take, Handle, Load, Move, Restart}
 use Rattle.net_script.specs.Commands.{is_restart}
 use Rattle.host_traffic.specs.Packets.{first_packet}
-use Rattle.fabric_state.specs.declared.ending.Ending.{Ending}
-use Rattle.fabric_state.specs.declared.ending.Ending.TheVariants as ending
-use Rattle.fabric_state.specs.declared.work.Drive.{Drive}
-use Rattle.fabric_state.specs.declared.work.Drive.TheVariants as drive
-use Rattle.fabric_state.specs.Fabric.{FabricOf, due_command}
-use Rattle.fabric_state.specs.Lawful.{is_barred, is_lawful, is_tick_due}
-use Rattle.fabric_state.specs.Agree.{ending_of}
-use Rattle.fabric_state.specs.Choices.{command_or_move, drive_by, event_of_drive, move_or_tick, next_drive, tick_or_wait}
+use Rattle.net_state.specs.declared.ending.Ending.{Ending}
+use Rattle.net_state.specs.declared.ending.Ending.TheVariants as ending
+use Rattle.net_state.specs.declared.work.Drive.{Drive}
+use Rattle.net_state.specs.declared.work.Drive.TheVariants as drive
+use Rattle.net_state.specs.Fabric.{FabricOf, due_command}
+use Rattle.net_state.specs.Lawful.{is_barred, is_lawful, is_tick_due}
+use Rattle.net_state.specs.Agree.{ending_of}
+use Rattle.net_state.specs.Choices.{command_or_move, drive_by, event_of_drive, move_or_tick, next_drive, tick_or_wait}
 use Rattle.fabric_book.specs.Kept.{IsDrivers, IsPlainCommand}
-use Rattle.fabric_world.proofs.SoloLemmas.{told_end}
-use Rattle.fabric_settling.specs.Settling.{HasTime, SettlesSoon}
-use Rattle.fabric_settling.proofs.Whole.{ends_in_time, settles_soon}
+use Rattle.net_world.proofs.SoloLemmas.{told_end}
+use Rattle.net_settling.specs.Settling.{HasTime, SettlesSoon}
+use Rattle.net_settling.proofs.Whole.{ends_in_time, settles_soon}
 use Rattle.fabric_book.proofs.WorldFacts.{command_fits, due_is_command, lawful_more, world_script}
 
 pub plain_is : (f : FabricOf) (e : Event) → IsPlainCommand f e → IsDrivers f e

@@ -7,19 +7,19 @@ use Rattle.std.proofs.lemmas.List.{append-nil}
 use Rattle.an_base.specs.declared.event.Event.{Event}
 use Rattle.an_base.specs.declared.event.Event.TheVariants.{Clock, Take, Handle, Load, Restart}
 use Rattle.net_script.specs.Scripts.{IsScript}
-use Rattle.fabric_state.specs.declared.work.Work.{Work}
-use Rattle.fabric_state.specs.declared.work.Work.TheVariants as work
-use Rattle.fabric_state.specs.declared.work.Drive.{Drive}
-use Rattle.fabric_state.specs.declared.work.Drive.TheVariants as drive
-use Rattle.fabric_state.specs.Choices.{event_of_drive, event_of_work, next_drive, next_work}
-use Rattle.fabric_state.specs.Fabric.{is_full_at, load_due_at}
-use Rattle.fabric_state.specs.Lawful.{is_barred}
-use Rattle.fabric_state.specs.declared.line.Line.{Line}
-use Rattle.fabric_world.specs.Histories.{fabric_of, last_taken, owner_of, world_of}
-use Rattle.fabric_world.specs.Lines.{lines_of}
-use Rattle.fabric_world.specs.Solo.{worker_event}
-use Rattle.fabric_world.specs.World.{WorldOf, after_all, begun, step, world_after}
-use Rattle.fabric_world.proofs.AccountLemmas.{gathered-append}
+use Rattle.net_state.specs.declared.work.Work.{Work}
+use Rattle.net_state.specs.declared.work.Work.TheVariants as work
+use Rattle.net_state.specs.declared.work.Drive.{Drive}
+use Rattle.net_state.specs.declared.work.Drive.TheVariants as drive
+use Rattle.net_state.specs.Choices.{event_of_drive, event_of_work, next_drive, next_work}
+use Rattle.net_state.specs.Fabric.{is_full_at, load_due_at}
+use Rattle.net_state.specs.Lawful.{is_barred}
+use Rattle.net_state.specs.declared.line.Line.{Line}
+use Rattle.net_world.specs.Histories.{fabric_of, last_taken, owner_of, world_of}
+use Rattle.net_world.specs.Lines.{lines_of}
+use Rattle.net_world.specs.Solo.{worker_event}
+use Rattle.net_world.specs.World.{WorldOf, after_all, begun, step, world_after}
+use Rattle.net_world.proofs.AccountLemmas.{gathered-append}
 use Rattle.fabric_book.specs.Nets.{NetOf, driver_line, driver_lines, history_of, with_events, with_step}
 use Rattle.fabric_book.specs.Rounds.{drive_lines, told_of}
 use Rattle.fabric_book.proofs.DriveLemmas.{driven, driver_owns}

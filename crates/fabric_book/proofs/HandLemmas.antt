@@ -25,18 +25,18 @@ use Rattle.switch_core.specs.Kept.{Handles, IsLoadDue, IsWorking, KeptOf, Loads,
 use Rattle.switch_core.specs.Steps.{Step, loaded}
 use Rattle.switch_core.specs.Switch.{CameBy, SwitchOf, finish_of, note_of}
 use Rattle.switch_core.specs.declared.switch.TableFor.{TableFor}
-use Rattle.fabric_state.specs.declared.hand.Hand.TheVariants as hand
-use Rattle.fabric_state.specs.declared.hand.Hand.{Hand}
-use Rattle.fabric_state.specs.Effects.{ShowsOnly, wires_at_hand}
-use Rattle.fabric_state.specs.Fabric.{count, held_bytes, is_empty, is_full_at, is_switch, load_due_at, station}
-use Rattle.fabric_state.specs.Fits.{IsHandPort}
-use Rattle.fabric_state.specs.Lawful.{is_lawful}
-use Rattle.fabric_state.specs.Lines.{lost_lines}
-use Rattle.fabric_world.specs.Lines.{finish_line, finish_lines, has_joined, join_lines, lines_of, load_lines, no_frame_lines, port_line, no_epoch_lines}
-use Rattle.fabric_world.specs.Turns.{AreTold, Handled, IsToLoad}
-use Rattle.fabric_world.specs.World.{WorldOf, handled, handles, handles_bytes, world_after}
-use Rattle.fabric_state.specs.declared.line.Line.TheVariants as line
-use Rattle.fabric_state.specs.declared.line.Line.{Line}
+use Rattle.net_state.specs.declared.hand.Hand.TheVariants as hand
+use Rattle.net_state.specs.declared.hand.Hand.{Hand}
+use Rattle.net_state.specs.Effects.{ShowsOnly, wires_at_hand}
+use Rattle.net_state.specs.Fabric.{count, held_bytes, is_empty, is_full_at, is_switch, load_due_at, station}
+use Rattle.net_state.specs.Fits.{IsHandPort}
+use Rattle.net_state.specs.Lawful.{is_lawful}
+use Rattle.net_state.specs.Lines.{lost_lines}
+use Rattle.net_world.specs.Lines.{finish_line, finish_lines, has_joined, join_lines, lines_of, load_lines, no_frame_lines, port_line, no_epoch_lines}
+use Rattle.net_world.specs.Turns.{AreTold, Handled, IsToLoad}
+use Rattle.net_world.specs.World.{WorldOf, handled, handles, handles_bytes, world_after}
+use Rattle.net_state.specs.declared.line.Line.TheVariants as line
+use Rattle.net_state.specs.declared.line.Line.{Line}
 use Rattle.fabric_book.specs.Nets.{HasFrame, IsHandled, IsSwitchKept}
 use Rattle.fabric_book.specs.Told.{hand_lines, line_if}
 use Rattle.fabric_book.proofs.TellLemmas.{handled_lines, same_shown}

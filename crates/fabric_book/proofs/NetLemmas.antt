@@ -12,15 +12,15 @@ use Rattle.net_graph.specs.Wires.{network}
 use Rattle.net_script.specs.Scripts.{ScriptOf, IsScript}
 use Rattle.switch_core.specs.Switch.{SwitchOf}
 use Rattle.switch_core.specs.Kept.{KeptOf, StandsFor}
-use Rattle.fabric_state.specs.Fabric.{FabricOf, StationOf, clock_due_at, count, is_full_at, is_switch, load_due_at, station, held_bytes, vacant}
-use Rattle.fabric_state.specs.Lawful.{is_command, is_lawful}
-use Rattle.fabric_world.specs.World.{begun, first_station, start_of, world_after}
+use Rattle.net_state.specs.Fabric.{FabricOf, StationOf, clock_due_at, count, is_full_at, is_switch, load_due_at, station, held_bytes, vacant}
+use Rattle.net_state.specs.Lawful.{is_command, is_lawful}
+use Rattle.net_world.specs.World.{begun, first_station, start_of, world_after}
 use Rattle.net_script.specs.Commands.{is_restart}
-use Rattle.fabric_world.specs.Histories.{HistoryOf, IsLawful, fabric_of, owner_of, with_event, world_of}
+use Rattle.net_world.specs.Histories.{HistoryOf, IsLawful, fabric_of, owner_of, with_event, world_of}
 use Rattle.fabric_book.specs.Kept.{IsPlainCommand, history_with}
 use Rattle.fabric_book.specs.Nets.{AreStarted, HasFrame, IsNetKept, IsSameOrNext, IsStarted, IsSwitchKept, NetOf, PowerOf, all_powers, history_of, power_of, start_with, with_events, with_step}
 use Rattle.fabric_book.proofs.DriveLemmas.{driver_owns, plain_is}
-use Rattle.fabric_world.proofs.CountLemmas.{world_counts}
+use Rattle.net_world.proofs.CountLemmas.{world_counts}
 use Rattle.fabric_book.proofs.WorldFacts.{fits_after, world_script, ready_is, station_stays, switch_stays, hand_stays}
 use Rattle.fabric_book.proofs.BookLemmas.{is_lawful-more, restart_below, take_below}
 

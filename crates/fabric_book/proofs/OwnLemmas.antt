@@ -12,14 +12,14 @@ use Rattle.table_build.specs.Made.{number_in}
 use Rattle.switch_core.specs.Switch.{SwitchOf, at_port, finish_of, note_of, started_as}
 use Rattle.switch_core.specs.Steps.{loaded}
 use Rattle.switch_core.specs.Kept.{KeptOf, StandsFor}
-use Rattle.fabric_state.specs.declared.hand.Hand.{Hand}
-use Rattle.fabric_state.specs.declared.hand.Hand.TheVariants as hand
-use Rattle.fabric_state.specs.Effects.{restarted, showing}
-use Rattle.fabric_state.specs.Fabric.{StationOf, is_full_at, samples_of, station, held_bytes, vacant, life_of}
-use Rattle.fabric_state.specs.Lawful.{is_lawful}
-use Rattle.fabric_state.specs.Starts.{next_life_at}
-use Rattle.fabric_state.proofs.ReadyLemmas.{empty_at}
-use Rattle.fabric_world.specs.World.{WorldOf, effect, handled, loads_with, next_life, start_of, table_for, world_after}
+use Rattle.net_state.specs.declared.hand.Hand.{Hand}
+use Rattle.net_state.specs.declared.hand.Hand.TheVariants as hand
+use Rattle.net_state.specs.Effects.{restarted, showing}
+use Rattle.net_state.specs.Fabric.{StationOf, is_full_at, samples_of, station, held_bytes, vacant, life_of}
+use Rattle.net_state.specs.Lawful.{is_lawful}
+use Rattle.net_state.specs.Starts.{next_life_at}
+use Rattle.net_state.proofs.ReadyLemmas.{empty_at}
+use Rattle.net_world.specs.World.{WorldOf, effect, handled, loads_with, next_life, start_of, table_for, world_after}
 use Rattle.fabric_book.specs.Nets.{HasFrame, IsStarted, IsSwitchKept, power_of, start_with}
 use Rattle.fabric_book.proofs.WorldFacts.{world_script, fits_after, place_sound, handled_life}
 use Rattle.fabric_book.proofs.BookLemmas.{world_more}

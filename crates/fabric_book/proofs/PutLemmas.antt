@@ -7,10 +7,10 @@ use Rattle.std.proofs.lemmas.List.{append-nil, take_more, take_more_set}
 use Rattle.std.proofs.lemmas.Grind.{flat_map-append}
 use Rattle.wire_set.specs.WireState.{WiresOf}
 use Rattle.switch_core.specs.Bytes.{BytesOut}
-use Rattle.fabric_state.specs.Fabric.{FabricOf}
-use Rattle.fabric_state.specs.Effects.{all_put_out, put_out}
-use Rattle.fabric_state.specs.Lines.{lost_line, lost_lines}
-use Rattle.fabric_state.specs.declared.line.Line.{Line}
+use Rattle.net_state.specs.Fabric.{FabricOf}
+use Rattle.net_state.specs.Effects.{all_put_out, put_out}
+use Rattle.net_state.specs.Lines.{lost_line, lost_lines}
+use Rattle.net_state.specs.declared.line.Line.{Line}
 
 out-append : (s : ℕ) (xs : List BytesOut) (x : BytesOut) (wires : WiresOf) → all_put_out s (xs ++ x ∷ []) wires ≡ put_out s x (all_put_out s xs wires)
 out-append s [] x wires = refl

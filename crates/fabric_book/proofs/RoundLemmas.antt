@@ -7,20 +7,20 @@ use Rattle.std.proofs.lemmas.List.{append-nil}
 use Rattle.an_base.specs.declared.event.Event.{Event}
 use Rattle.an_base.specs.declared.event.Event.TheVariants.{Clock, Take, Handle, Load, Restart}
 use Rattle.net_script.specs.Scripts.{ScriptOf, IsScript}
-use Rattle.fabric_state.specs.declared.ending.Ending.{Ending}
-use Rattle.fabric_state.specs.declared.work.Work.{Work}
-use Rattle.fabric_state.specs.declared.work.Work.TheVariants as work
-use Rattle.fabric_state.specs.declared.work.Drive.{Drive}
-use Rattle.fabric_state.specs.declared.work.Drive.TheVariants as drive
+use Rattle.net_state.specs.declared.ending.Ending.{Ending}
+use Rattle.net_state.specs.declared.work.Work.{Work}
+use Rattle.net_state.specs.declared.work.Work.TheVariants as work
+use Rattle.net_state.specs.declared.work.Drive.{Drive}
+use Rattle.net_state.specs.declared.work.Drive.TheVariants as drive
 use Rattle.net_script.specs.Commands.{is_restart}
 use Rattle.host_traffic.specs.Packets.{first_packet}
-use Rattle.fabric_state.specs.Fabric.{FabricOf, due_command, is_full_at, load_due_at}
-use Rattle.fabric_state.specs.Lawful.{is_barred, is_tick_due}
-use Rattle.fabric_state.specs.Agree.{ending_of}
-use Rattle.fabric_state.specs.Choices.{command_or_move, drive_by, event_of_drive, event_of_work, move_or_tick, next_drive, next_work, tick_or_wait}
-use Rattle.fabric_world.specs.World.{WorldOf, world_after}
-use Rattle.fabric_world.specs.Histories.{HistoryOf, IsLawful, IsLegal, fabric_of, last_taken, world_of}
-use Rattle.fabric_world.specs.Solo.{IsOneThread, IsSolo, begins, works, rests, drives, waits, worker_event}
+use Rattle.net_state.specs.Fabric.{FabricOf, due_command, is_full_at, load_due_at}
+use Rattle.net_state.specs.Lawful.{is_barred, is_tick_due}
+use Rattle.net_state.specs.Agree.{ending_of}
+use Rattle.net_state.specs.Choices.{command_or_move, drive_by, event_of_drive, event_of_work, move_or_tick, next_drive, next_work, tick_or_wait}
+use Rattle.net_world.specs.World.{WorldOf, world_after}
+use Rattle.net_world.specs.Histories.{HistoryOf, IsLawful, IsLegal, fabric_of, last_taken, world_of}
+use Rattle.net_world.specs.Solo.{IsOneThread, IsSolo, begins, works, rests, drives, waits, worker_event}
 use Rattle.fabric_book.specs.Nets.{NetOf, history_of, with_events}
 use Rattle.fabric_book.specs.Rounds.{AreIdleBefore, GoesOn, HasDriven, IsIdleAt, IsTurnOf, IsTurnOfDriver}
 use Rattle.fabric_book.proofs.WaitLemmas.{stuck}

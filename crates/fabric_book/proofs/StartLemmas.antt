@@ -5,7 +5,7 @@ use Rattle.std.specs.List.{range_with_len}
 use Rattle.std.proofs.Common.{sym, ◌∙◌, ap, subst, arith, inl, inr}
 use Rattle.std.proofs.lemmas.Bool.{cases_eq}
 use Rattle.std.proofs.lemmas.List.{get_or_append_left, get_or_default, get_or_push, map-append}
-use Rattle.an_base.proofs.ListLemmas.{places_more}
+use Rattle.common_values.proofs.ListLemmas.{places_more}
 use Rattle.net_graph.specs.Wires.{Wires, network}
 use Rattle.net_script.specs.Scripts.{ScriptOf}
 use Rattle.switch_core.specs.Kept.{KeptOf}

@@ -7,7 +7,7 @@ use Rattle.std.proofs.lemmas.Bool.{eq-eqb, eqb-false, eqb-true}
 use Rattle.std.proofs.lemmas.List.{append-nil, get_or-set_other}
 use Rattle.std.proofs.lemmas.Option.{get_or_from_slice_get}
 use Rattle.std.proofs.lemmas.Grind.{flat_map-append}
-use Rattle.an_base.proofs.ListLemmas.{range_more}
+use Rattle.common_values.proofs.ListLemmas.{range_more}
 use Rattle.an_base.specs.Ports.{NoteOf, PortViewOf}
 use Rattle.an_base.specs.declared.event.Event.{Event}
 use Rattle.an_base.specs.declared.event.Event.TheVariants.{Tick, Clock, Take, Handle, Load, Fail, Repair, Lose, Again, Swap, Noise, Send, Move, Restart}
@@ -17,16 +17,16 @@ use Rattle.frame_codec.specs.Reading.{frame_of}
 use Rattle.port_monitor.specs.Histories.{externals}
 use Rattle.switch_core.specs.Switch.{CameBy, SwitchOf, note_of, port_of, ports_of, view_of}
 use Rattle.switch_core.proofs.NoteLemmas.{view_put}
-use Rattle.fabric_state.specs.declared.hand.Hand.{Hand}
-use Rattle.fabric_state.specs.declared.hand.Hand.TheVariants as hand
-use Rattle.fabric_state.specs.PortStates.{state_code}
-use Rattle.fabric_state.specs.Fabric.{no_view}
-use Rattle.fabric_state.specs.declared.line.Line.{Line}
-use Rattle.fabric_state.specs.declared.line.Line.TheVariants as line
-use Rattle.fabric_state.specs.Lines.{command_lines}
-use Rattle.fabric_world.specs.Lines.{lines_of, finish_lines, join_lines, no_frame_lines, port_line, shown_in, no_epoch_lines}
-use Rattle.fabric_world.specs.Turns.{is_noise}
-use Rattle.fabric_world.specs.World.{WorldOf}
+use Rattle.net_state.specs.declared.hand.Hand.{Hand}
+use Rattle.net_state.specs.declared.hand.Hand.TheVariants as hand
+use Rattle.net_state.specs.PortStates.{state_code}
+use Rattle.net_state.specs.Fabric.{no_view}
+use Rattle.net_state.specs.declared.line.Line.{Line}
+use Rattle.net_state.specs.declared.line.Line.TheVariants as line
+use Rattle.net_state.specs.Lines.{command_lines}
+use Rattle.net_world.specs.Lines.{lines_of, finish_lines, join_lines, no_frame_lines, port_line, shown_in, no_epoch_lines}
+use Rattle.net_world.specs.Turns.{is_noise}
+use Rattle.net_world.specs.World.{WorldOf}
 use Rattle.fabric_book.specs.Told.{hand_lines, line_if, noise_lines}
 
 -- bytes that are no frame

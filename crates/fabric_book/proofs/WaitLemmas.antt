@@ -12,17 +12,17 @@ use Rattle.net_script.specs.Commands.{is_restart}
 use Rattle.net_script.specs.Scripts.{ScriptOf, IsScript}
 use Rattle.port_monitor.specs.Histories.{externals}
 use Rattle.host_traffic.specs.Packets.{PacketOf, first_packet, packet_of}
-use Rattle.fabric_state.specs.declared.ending.Ending.{Ending}
-use Rattle.fabric_state.specs.declared.work.Work.TheVariants as work
-use Rattle.fabric_state.specs.declared.work.Why.TheVariants as why
-use Rattle.fabric_state.specs.declared.work.Drive.TheVariants as drive
-use Rattle.fabric_state.specs.Fabric.{FabricOf, clock_due_at, due_command, has_frame, is_external, is_full_at, is_some_spent, is_switch, load_due_at, room, samples_of}
-use Rattle.fabric_state.specs.Agree.{ending_of}
-use Rattle.fabric_state.specs.Lawful.{is_barred, is_command, is_handle, is_lawful, is_tick_due}
-use Rattle.fabric_state.specs.Starts.{next_life_at}
-use Rattle.fabric_state.specs.Choices.{command_or_move, drive_by, event_of_work, frame_work, move_or_tick, next_drive, next_port, next_work, port_above, tick_or_wait}
-use Rattle.fabric_world.specs.World.{WorldOf, world_after}
-use Rattle.fabric_world.specs.Solo.{worker_event}
+use Rattle.net_state.specs.declared.ending.Ending.{Ending}
+use Rattle.net_state.specs.declared.work.Work.TheVariants as work
+use Rattle.net_state.specs.declared.work.Why.TheVariants as why
+use Rattle.net_state.specs.declared.work.Drive.TheVariants as drive
+use Rattle.net_state.specs.Fabric.{FabricOf, clock_due_at, due_command, has_frame, is_external, is_full_at, is_some_spent, is_switch, load_due_at, room, samples_of}
+use Rattle.net_state.specs.Agree.{ending_of}
+use Rattle.net_state.specs.Lawful.{is_barred, is_command, is_handle, is_lawful, is_tick_due}
+use Rattle.net_state.specs.Starts.{next_life_at}
+use Rattle.net_state.specs.Choices.{command_or_move, drive_by, event_of_work, frame_work, move_or_tick, next_drive, next_port, next_work, port_above, tick_or_wait}
+use Rattle.net_world.specs.World.{WorldOf, world_after}
+use Rattle.net_world.specs.Solo.{worker_event}
 use Rattle.fabric_book.proofs.WorldFacts.{world_script, command_fits, is_due, may_go_on, ready_is, unbarred_is}
 
 -- a list with something is not the empty one

@@ -9,21 +9,21 @@ use Rattle.an_base.specs.declared.event.Event.{Event}
 use Rattle.an_base.specs.declared.event.Event.TheVariants.{Clock, Take, Handle, Load, Restart}
 use Rattle.net_script.specs.Scripts.{ScriptOf}
 use Rattle.switch_core.specs.Kept.{KeptOf}
-use Rattle.fabric_state.specs.declared.work.Why.{Why}
-use Rattle.fabric_state.specs.declared.work.Why.TheVariants as why
-use Rattle.fabric_state.specs.declared.work.Work.{Work}
-use Rattle.fabric_state.specs.declared.work.Work.TheVariants as work
+use Rattle.net_state.specs.declared.work.Why.{Why}
+use Rattle.net_state.specs.declared.work.Why.TheVariants as why
+use Rattle.net_state.specs.declared.work.Work.{Work}
+use Rattle.net_state.specs.declared.work.Work.TheVariants as work
 use Rattle.an_base.specs.declared.port.Sample.{Sample}
-use Rattle.fabric_state.specs.Choices.{event_of_work, frame_work, next_port, next_work}
-use Rattle.fabric_state.specs.Fabric.{FabricOf, clock_due_at, held_bytes, is_full_at, is_some_spent, load_due_at, room, samples_of}
-use Rattle.fabric_state.specs.Lawful.{is_barred, is_command, is_lawful}
-use Rattle.fabric_state.specs.Starts.{next_life_at}
-use Rattle.fabric_world.specs.Histories.{HistoryOf, fabric_of, last_taken, with_event, world_of}
-use Rattle.fabric_world.specs.Solo.{worker_event}
-use Rattle.fabric_world.specs.Sound.{AllMayCome}
-use Rattle.fabric_state.specs.declared.line.PlacedLine.{PlacedLine}
-use Rattle.fabric_world.specs.Turns.{HasBytes, TakesWork}
-use Rattle.fabric_world.specs.World.{WorldOf}
+use Rattle.net_state.specs.Choices.{event_of_work, frame_work, next_port, next_work}
+use Rattle.net_state.specs.Fabric.{FabricOf, clock_due_at, held_bytes, is_full_at, is_some_spent, load_due_at, room, samples_of}
+use Rattle.net_state.specs.Lawful.{is_barred, is_command, is_lawful}
+use Rattle.net_state.specs.Starts.{next_life_at}
+use Rattle.net_world.specs.Histories.{HistoryOf, fabric_of, last_taken, with_event, world_of}
+use Rattle.net_world.specs.Solo.{worker_event}
+use Rattle.net_world.specs.Sound.{AllMayCome}
+use Rattle.net_state.specs.declared.line.PlacedLine.{PlacedLine}
+use Rattle.net_world.specs.Turns.{HasBytes, TakesWork}
+use Rattle.net_world.specs.World.{WorldOf}
 use Rattle.fabric_book.specs.Kept.{history_with}
 use Rattle.fabric_book.specs.Nets.{IsNetKept, IsStarted, NetOf, PowerOf, history_of, start_with}
 use Rattle.fabric_book.specs.Nets.{with_events}

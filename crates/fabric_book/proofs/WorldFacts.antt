@@ -11,42 +11,42 @@ use Rattle.net_script.specs.Commands.{IsCommandEvent}
 use Rattle.net_script.specs.Scripts.{ScriptOf, IsScript, restarts_of}
 use Rattle.wire_set.specs.WireState.{hand_of}
 use Rattle.switch_core.specs.Bytes.{BytesOut}
-use Rattle.fabric_state.specs.declared.hand.Hand.TheVariants as hand
-use Rattle.fabric_state.specs.Fabric.{FabricOf, StationOf, count, due_command, full_hands, held_bytes, is_full_at, load_due_at, station, vacant}
-use Rattle.fabric_state.specs.Lawful.{is_barred, is_command, is_handle, is_lawful, is_ready, is_same_event}
-use Rattle.fabric_state.specs.Agree.{ending_of}
-use Rattle.fabric_state.specs.Effects.{after_handle, all_put_out, emptied, shows}
-use Rattle.fabric_state.specs.Starts.{begun_fabric}
-use Rattle.fabric_state.specs.Choices.{next_work, event_of_work, next_drive, event_of_drive}
-use Rattle.fabric_state.specs.Fits.{Fits}
-use Rattle.fabric_world.specs.World.{WorldOf, begun, effect, handled, step, world_after}
-use Rattle.fabric_world.specs.Histories.{IsLawful, owner_of}
-use Rattle.fabric_world.specs.Sound.{AllMayCome, HasNext, IsSoundAt}
-use Rattle.fabric_state.proofs.EventLemmas.{same_event}
-use Rattle.fabric_state.proofs.LawfulLemmas.{command_is, lawful_is, next_open, open_unbarred}
-use Rattle.fabric_state.proofs.LawfulLemmas.{command_fits as fits_in}
-use Rattle.fabric_state.proofs.EndLemmas.{full_some}
-use Rattle.fabric_state.proofs.EndLemmas.{due_is_command as due_commands}
-use Rattle.fabric_state.proofs.ReadyLemmas.{handle_ready}
-use Rattle.fabric_state.proofs.FitsLemmas.{free_of, station_below}
-use Rattle.fabric_state.proofs.FitsLemmas.{switch_below as place_below}
-use Rattle.fabric_state.proofs.HandleLemmas.{handle_parts}
-use Rattle.fabric_state.proofs.RoomLemmas.{full_is, full_set}
-use Rattle.fabric_world.proofs.WorldLemmas.{world_after-event, step-lawful}
-use Rattle.fabric_world.proofs.BegunLemmas.{begun_is as begun_fabric_is}
-use Rattle.fabric_world.proofs.InductionLemmas.{world_script as script_stays}
-use Rattle.fabric_world.proofs.FabricLemmas.{world_fits}
-use Rattle.fabric_world.proofs.PlaceLemmas.{world_places}
-use Rattle.fabric_world.proofs.BootLemmas.{boot_most as boots_most}
-use Rattle.fabric_world.proofs.CountLemmas.{event_counts as counts_each}
-use Rattle.fabric_world.proofs.CountLemmas.{lawful_more as lawful_and_one}
-use Rattle.fabric_world.proofs.SpentLemmas.{world_empty}
-use Rattle.fabric_world.proofs.SpentLemmas.{full_unspent as place_unspent}
-use Rattle.fabric_world.proofs.StaysLemmas.{handles_stay}
-use Rattle.fabric_world.proofs.NextLemmas.{work_is_lawful, handle_is_lawful, load_is_lawful, drive_is_lawful}
-use Rattle.fabric_world.proofs.ProgressLemmas.{progress}
-use Rattle.fabric_world.proofs.ElsewhereLemmas.{world_elsewhere}
-use Rattle.fabric_world.proofs.FitLemmas.{world_hand_elsewhere}
+use Rattle.net_state.specs.declared.hand.Hand.TheVariants as hand
+use Rattle.net_state.specs.Fabric.{FabricOf, StationOf, count, due_command, full_hands, held_bytes, is_full_at, load_due_at, station, vacant}
+use Rattle.net_state.specs.Lawful.{is_barred, is_command, is_handle, is_lawful, is_ready, is_same_event}
+use Rattle.net_state.specs.Agree.{ending_of}
+use Rattle.net_state.specs.Effects.{after_handle, all_put_out, emptied, shows}
+use Rattle.net_state.specs.Starts.{begun_fabric}
+use Rattle.net_state.specs.Choices.{next_work, event_of_work, next_drive, event_of_drive}
+use Rattle.net_state.specs.Fits.{Fits}
+use Rattle.net_world.specs.World.{WorldOf, begun, effect, handled, step, world_after}
+use Rattle.net_world.specs.Histories.{IsLawful, owner_of}
+use Rattle.net_world.specs.Sound.{AllMayCome, HasNext, IsSoundAt}
+use Rattle.net_state.proofs.EventLemmas.{same_event}
+use Rattle.net_state.proofs.LawfulLemmas.{command_is, lawful_is, next_open, open_unbarred}
+use Rattle.net_state.proofs.LawfulLemmas.{command_fits as fits_in}
+use Rattle.net_state.proofs.EndLemmas.{full_some}
+use Rattle.net_state.proofs.EndLemmas.{due_is_command as due_commands}
+use Rattle.net_state.proofs.ReadyLemmas.{handle_ready}
+use Rattle.net_state.proofs.FitsLemmas.{free_of, station_below}
+use Rattle.net_state.proofs.FitsLemmas.{switch_below as place_below}
+use Rattle.net_state.proofs.HandleLemmas.{handle_parts}
+use Rattle.net_state.proofs.RoomLemmas.{full_is, full_set}
+use Rattle.net_world.proofs.WorldLemmas.{world_after-event, step-lawful}
+use Rattle.net_world.proofs.BegunLemmas.{begun_is as begun_fabric_is}
+use Rattle.net_world.proofs.InductionLemmas.{world_script as script_stays}
+use Rattle.net_world.proofs.FabricLemmas.{world_fits}
+use Rattle.net_world.proofs.PlaceLemmas.{world_places}
+use Rattle.net_world.proofs.BootLemmas.{boot_most as boots_most}
+use Rattle.net_world.proofs.CountLemmas.{event_counts as counts_each}
+use Rattle.net_world.proofs.CountLemmas.{lawful_more as lawful_and_one}
+use Rattle.net_world.proofs.SpentLemmas.{world_empty}
+use Rattle.net_world.proofs.SpentLemmas.{full_unspent as place_unspent}
+use Rattle.net_world.proofs.StaysLemmas.{handles_stay}
+use Rattle.net_world.proofs.NextLemmas.{work_is_lawful, handle_is_lawful, load_is_lawful, drive_is_lawful}
+use Rattle.net_world.proofs.ProgressLemmas.{progress}
+use Rattle.net_world.proofs.ElsewhereLemmas.{world_elsewhere}
+use Rattle.net_world.proofs.FitLemmas.{world_hand_elsewhere}
 
 -- Of the world after events
 pub event_more : (script : ScriptOf) (h : List Event) (e : Event) → world_after script (h ++ e ∷ []) ≡ step (world_after script h) e

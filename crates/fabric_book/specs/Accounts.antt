@@ -1,30 +1,29 @@
--- What an `Account` has.
+-- What an `Account` contains.
 
 use Rattle.std.specs.Prelude.{◌≡◌, ◌+◌, ◌<◌, ◌++◌, ◌∷◌, [], ℕ, List, length, map, slice_index_or, false}
 use Rattle.an_base.specs.Rows.{RowOf}
 use Rattle.an_base.specs.declared.event.Event.{Event}
 use Rattle.net_script.specs.Scripts.{ScriptOf}
-use Rattle.fabric_state.specs.declared.line.PlacedLine.{PlacedLine}
-use Rattle.fabric_world.specs.Accounts.{AccountOf, account_of}
+use Rattle.net_state.specs.declared.line.PlacedLine.{PlacedLine}
+use Rattle.net_world.specs.Accounts.{AccountOf, account_of}
 use Rattle.fabric_book.specs.declared.account.Account.{Account}
 
--- it has what is told
+-- `account` has the lines and the rows of `told`
 pub record HasAccount (told : AccountOf) (account : Account) : Type 0 where
   pub lines_are : account.lines.items ≡ told.lines
   pub rows_are : map (λ rows. rows.items) account.rows.items ≡ told.rows
 
--- so it is, unless memory was wanting
+-- `account` has the lines and the rows of `told`, unless an allocation failed
 abbrev pub IsAccount : AccountOf → Account → Type 0
 IsAccount told account = account.failed ≡ false → HasAccount told account
 
--- These have what is told of the events of each caller in a history: of the driver, and of the worker of each
--- switch.
+-- `accounts` report the events of each caller in a history: the driver, and the worker of each switch.
 pub record AreAccounts (script : ScriptOf) (history : List Event) (accounts : List Account) : Type 0 where
   pub count : length accounts ≡ length script.wires.switches + 1
   pub each : (caller : ℕ) → caller < length accounts → (account : Account)
       → HasAccount (account_of script caller history) (slice_index_or accounts caller account)
 
--- more is told: lines; and the line of a load, with the rows of its table
+-- an account with more lines, or with the line of a load and the rows of its table
 abbrev pub with_lines : List PlacedLine → AccountOf → AccountOf
 with_lines lines told = record told { lines = told.lines ++ lines }
 

@@ -9,17 +9,17 @@ use Rattle.net_script.specs.Scripts.{IsScript, ScriptOf}
 use Rattle.switch_core.specs.Switch.{StartOf, SwitchOf, started_as}
 use Rattle.switch_core.specs.Bytes.{OutOf, all_spelled}
 use Rattle.switch_core.specs.Kept.{KeptOf, StandsFor}
-use Rattle.fabric_state.specs.declared.hand.Hand.{Hand}
-use Rattle.fabric_state.specs.declared.hand.Hand.TheVariants as hand
-use Rattle.fabric_state.specs.Fabric.{station, held_bytes}
-use Rattle.fabric_state.specs.declared.line.Line.{Line}
-use Rattle.fabric_world.specs.Accounts.{gathered}
-use Rattle.fabric_world.specs.Lines.{lines_of}
-use Rattle.fabric_world.specs.World.{WorldOf, handles, start_of}
-use Rattle.fabric_world.specs.Histories.{HistoryOf, IsLawful, fabric_of, owner_of, with_event, world_of}
-use Rattle.fabric_world.specs.Turns.{is_noise}
+use Rattle.net_state.specs.declared.hand.Hand.{Hand}
+use Rattle.net_state.specs.declared.hand.Hand.TheVariants as hand
+use Rattle.net_state.specs.Fabric.{station, held_bytes}
+use Rattle.net_state.specs.declared.line.Line.{Line}
+use Rattle.net_world.specs.Accounts.{gathered}
+use Rattle.net_world.specs.Lines.{lines_of}
+use Rattle.net_world.specs.World.{WorldOf, handles, start_of}
+use Rattle.net_world.specs.Histories.{HistoryOf, IsLawful, fabric_of, owner_of, with_event, world_of}
+use Rattle.net_world.specs.Turns.{is_noise}
 
--- a script and the events that came, and whether memory was wanting, after which nothing else is known
+-- a script, the events that came, and whether an allocation failed, after which nothing else is known
 pub record NetOf : Type 0 where
   pub script : ScriptOf
   pub events : List Event
@@ -34,22 +34,22 @@ with_step event net = record net { events = net.events ++ event ∷ [] }
 abbrev pub with_events : List Event → NetOf → NetOf
 with_events events net = record net { events = net.events ++ events }
 
--- what is told of an event if it is the driver's: a tick, a hop, or a command that is no restart
+-- the lines that report an event of the driver: a tick, a hop, or a command that is no restart
 abbrev pub driver_line : WorldOf → Event → List Line
 driver_line world event = if owner_of event == 0 then lines_of world event else []
 
--- what is told of those of lawful events in turn that are the driver's
+-- the lines that report those of lawful events in turn that the driver makes
 abbrev pub driver_lines : WorldOf → List Event → List Line
 driver_lines world events = gathered lines_of 0 world events
 
--- With what a switch is started in each of its lives: an epoch, the number that it had before, and whether
+-- What a switch is started with in each of its lives: an epoch, the short address that it had before, and whether
 -- its tables have all legal routes.
 pub record PowerOf : Type 0 where
   pub epoch : ℕ
   pub had : ℕ
   pub any : Bool
 
--- that of the switch at a place, and of all in the order of the script
+-- what the switch at an index is started with, and what all are, in the order of the script
 abbrev pub power_of : ScriptOf → ℕ → PowerOf
 power_of script place =
     record { epoch = script.epoch; had = had_of script.wires place; any = script.any_routes }
@@ -57,11 +57,11 @@ power_of script place =
 abbrev pub all_powers : ScriptOf → List PowerOf
 all_powers script = map (power_of script) (range_with_len 0 (length script.wires.switches))
 
--- with a life: all that this life is started with
+-- all that a life is started with
 abbrev pub start_with : PowerOf → LifeId → StartOf
 start_with power life = record { life = life; epoch = power.epoch; had = power.had; any = power.any }
 
--- a switch was started so, and nothing has come to it yet
+-- `switch` was started with `start`, and nothing has come to it yet
 pub record IsStarted (start : StartOf) (switch : KeptOf) : Type 0 where
   pub start_is : switch.start ≡ start
   pub stands : StandsFor switch (started_as start)
@@ -87,19 +87,19 @@ HasFrame hand.Empty held bytes = Unit {0}
 HasFrame (hand.Clock now samples) held bytes = Unit {0}
 HasFrame (hand.Frame port) held bytes = bytes ≡ held
 
--- the switch at a place stands for that of the world, with no more works than there were events
+-- `switch` represents the switch of the world at `place`, with no more works than there were events
 pub record IsSwitchKept (world : WorldOf) (place : ℕ) (switch : KeptOf) (bytes : List ℕ) : Type 0 where
   pub stands : StandsFor switch (world.switches place)
   pub start : switch.start ≡ start_of world.fabric.script place (world.switches place).life.boot
   pub works : switch.works ≤ world.fabric.events
   pub frame : HasFrame (station world.fabric place).hand (held_bytes world.fabric place) bytes
 
--- an event came, or none
+-- `event` was appended, or nothing was
 abbrev pub IsSameOrNext : Event → HistoryOf → HistoryOf → Type 0
 IsSameOrNext event old new = (new ≡ old) ⊎ (new ≡ with_event event old)
 
--- How a `Net` is stored: its script can be, and its events were lawful in turn; with what its switches are
--- started, and each of them at its place. The last is so until memory was wanting.
+-- How a `Net` is stored: its script is possible, its events were lawful in turn, `powers` is what its switches are
+-- started with, and each switch is at its index. The last does not hold after a failed allocation.
 pub record IsNetKept (history : HistoryOf) (lost : Bool) (powers : List PowerOf) (switches : List KeptOf)
     (buffers : List (List ℕ)) : Type 0 where
   pub script : IsScript history.script

@@ -1,19 +1,19 @@
--- A network on one thread, in the order of `IsOneThread`. No public clause cites this module.
+-- A network on one thread, in the order of `IsOneThread`. No public contract cites this module.
 
 use Rattle.std.specs.Prelude.{◌≡◌, ◌++◌, ◌<◌, ◌≤◌, ℕ, List, [], length, Option, Some, None, false}
 use Rattle.an_base.specs.declared.event.Event.{Event}
-use Rattle.fabric_state.specs.declared.ending.Ending.{Ending}
-use Rattle.fabric_state.specs.declared.work.Drive.TheVariants as drive
-use Rattle.fabric_state.specs.Choices.{next_drive}
-use Rattle.fabric_state.specs.declared.work.Drive.{Drive}
-use Rattle.fabric_state.specs.declared.line.Line.{Line}
-use Rattle.fabric_world.specs.Histories.{fabric_of, last_taken, world_of}
-use Rattle.fabric_world.specs.Lines.{lines_of}
-use Rattle.fabric_world.specs.World.{WorldOf, begun}
-use Rattle.fabric_world.specs.Solo.{IsOneThread, worker_event}
+use Rattle.net_state.specs.declared.ending.Ending.{Ending}
+use Rattle.net_state.specs.declared.work.Drive.TheVariants as drive
+use Rattle.net_state.specs.Choices.{next_drive}
+use Rattle.net_state.specs.declared.work.Drive.{Drive}
+use Rattle.net_state.specs.declared.line.Line.{Line}
+use Rattle.net_world.specs.Histories.{fabric_of, last_taken, world_of}
+use Rattle.net_world.specs.Lines.{lines_of}
+use Rattle.net_world.specs.World.{WorldOf, begun}
+use Rattle.net_world.specs.Solo.{IsOneThread, worker_event}
 use Rattle.fabric_book.specs.Nets.{NetOf, driver_lines, history_of}
 
--- whose turn it is: that of the worker at a place, or that of the driver
+-- it is the turn of the worker at the index `turn`, or of the driver after the last worker
 pub record IsTurnOf (turn : ℕ) (net : NetOf) : Type 0 where
   pub here : net.lost ≡ false
   pub order : IsOneThread net.script net.events turn
@@ -22,7 +22,7 @@ pub record IsTurnOf (turn : ℕ) (net : NetOf) : Type 0 where
 abbrev pub IsTurnOfDriver : NetOf → Type 0
 IsTurnOfDriver net = IsTurnOf (length net.script.wires.switches) net
 
--- events came, or none
+-- events were appended, or none
 pub record GoesOn (before after : NetOf) : Type 0 where
   pub script : after.script ≡ before.script
   pub more : List Event
@@ -32,7 +32,7 @@ pub record GoesOn (before after : NetOf) : Type 0 where
 abbrev pub IsIdleAt : NetOf → ℕ → Type 0
 IsIdleAt net place = worker_event (world_of (history_of net)) place (last_taken place net.events) ≡ []
 
--- nor has one of the workers before a place, if nothing came since
+-- no worker below the index `limit` has anything to do, if nothing came since
 abbrev pub AreIdleBefore : ℕ → NetOf → NetOf → Type 0
 AreIdleBefore limit before after =
     after.events ≡ before.events → (place : ℕ) → place < limit → IsIdleAt after place
@@ -42,11 +42,11 @@ abbrev pub HasDriven : Option Ending → NetOf → Type 0
 HasDriven None net = IsTurnOf 0 net × (next_drive (fabric_of (history_of net)) ≡ drive.Waits)
 HasDriven (Some end) net = IsTurnOfDriver net × (next_drive (fabric_of (history_of net)) ≡ drive.Ended end)
 
--- what was told of the driver's events
+-- the lines that report the driver's events
 abbrev pub told_of : NetOf → List Line
 told_of net = driver_lines (begun net.script) net.events
 
--- what is told of what the driver did
+-- the lines that report what the driver did
 abbrev pub drive_lines : WorldOf → Drive → List Line
 drive_lines world (drive.Did event) = lines_of world event
 drive_lines world drive.Waits = []

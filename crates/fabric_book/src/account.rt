@@ -1,28 +1,28 @@
-//! What is told of the events of a caller.
+//! What a caller reports of its events.
 
 ghost use Rattle.std.specs.Prelude.{◌≡◌, ◌∷◌, [], option_to_list};
-ghost use Rattle.fabric_world.specs.Accounts.{AccountOf, placed};
+ghost use Rattle.net_world.specs.Accounts.{AccountOf, placed};
 ghost use Rattle.fabric_book.specs.Accounts.{IsAccount, with_lines, with_load};
 
 use crate::lines::Lines;
 use an_base::row::Row;
-use fabric_state::line::PlacedLine;
+use net_state::line::PlacedLine;
 use std::alloc::Global;
 
-/// What is told of the events of a caller, and the rows of each table that it loaded, in order; and whether memory
-/// was wanting, after which it is worth nothing.
+/// What a caller reports of its events, and the rows of each table that it loaded, in order. After a failed
+/// allocation (`failed`) it says nothing.
 #[derive(Drop)]
 pub struct Account {
-    /// The lines.
+    /// The lines, each with the place of its event.
     pub lines: Vec<PlacedLine>,
     /// The rows of each table.
     pub rows: Vec<Vec<Row>>,
-    /// Whether memory was wanting.
+    /// Whether an allocation failed.
     pub failed: bool,
 }
 
 impl Account {
-    /// Nothing yet, without taking memory. The allocator is kept for what comes.
+    /// Creates an empty account without allocating. `alloc` is kept for later lines.
     pub fn new(alloc: Global) -> Account
         ensures { IsAccount (record { lines = []; rows = [] }) result }
     {
@@ -43,7 +43,7 @@ impl Account {
         }
     }
 
-    /// Adds a line at the end, if there is one.
+    /// Adds `line` at the end, if there is one.
     pub fn tell(&mut self, line: Option<PlacedLine>)
         ensures { (told : AccountOf) → IsAccount told self.old → IsAccount (with_lines (option_to_list line) told) self.new }
     {
@@ -52,7 +52,7 @@ impl Account {
         }
     }
 
-    /// Adds the lines of the event at a place.
+    /// Adds the lines of the event at the place `event`.
     pub fn tell_lines(&mut self, event: u32, lines: &Lines)
         ensures { (told : AccountOf) → IsAccount told self.old
             → IsAccount (with_lines (placed event lines.now) told) self.new }
@@ -62,7 +62,7 @@ impl Account {
         }
     }
 
-    /// Adds what is told of a load, and the rows of its table.
+    /// Adds the line of a load, and the rows of its table.
     pub fn tell_load(&mut self, line: PlacedLine, rows: Vec<Row>)
         ensures { (told : AccountOf) → IsAccount told self.old → IsAccount (with_load line rows.items told) self.new }
     {

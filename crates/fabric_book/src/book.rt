@@ -5,47 +5,47 @@ ghost use Rattle.std.specs.List.{flat_map};
 ghost use Rattle.an_base.specs.declared.event.Event.TheVariants as events;
 ghost use Rattle.net_script.specs.Commands.{is_restart};
 ghost use Rattle.switch_core.specs.Bytes.{IsFrameOut};
-ghost use Rattle.fabric_state.specs.declared.ending.Ending.TheVariants as ending;
-ghost use Rattle.fabric_state.specs.declared.hand.Hand.TheVariants as in_hand;
-ghost use Rattle.fabric_state.specs.declared.work.Drive.TheVariants as drive;
-ghost use Rattle.fabric_state.specs.Choices.{event_of_work};
-ghost use Rattle.fabric_state.specs.Fabric.{count, full_hands, held_bytes, is_full_at, samples_of, station};
-ghost use Rattle.fabric_state.specs.Agree.{is_settled};
-ghost use Rattle.fabric_state.specs.Effects.{ShowsOnly, all_put_out, shows};
-ghost use Rattle.fabric_state.specs.Fits.{IsHandPort};
-ghost use Rattle.fabric_state.specs.Lawful.{is_barred, is_command, is_lawful};
-ghost use Rattle.fabric_state.specs.Lines.{lost_lines};
-ghost use Rattle.fabric_state.specs.Starts.{next_life_at};
-ghost use Rattle.fabric_state.specs.declared.line.Line.TheVariants as line;
-ghost use Rattle.fabric_world.specs.Histories.{IsLawful, fabric_of, owner_of, with_event, world_of};
-ghost use Rattle.fabric_world.specs.Accounts.{placed};
-ghost use Rattle.fabric_world.specs.Lines.{all_lines, lines_of};
-ghost use Rattle.fabric_world.specs.Sound.{AllMayCome};
-ghost use Rattle.fabric_world.specs.Turns.{AnswersAsk, AreTold, Drives, Handled, HasBytes, IsDone, IsFit, IsToLoad, LoadsOrNot, TakesWork};
-ghost use Rattle.fabric_world.proofs.FitLemmas.{fit_stays};
-ghost use Rattle.fabric_settling.specs.Settling.{HasTime, SettlesSoon};
+ghost use Rattle.net_state.specs.declared.ending.Ending.TheVariants as ending;
+ghost use Rattle.net_state.specs.declared.hand.Hand.TheVariants as in_hand;
+ghost use Rattle.net_state.specs.declared.work.Drive.TheVariants as drive;
+ghost use Rattle.net_state.specs.Choices.{event_of_work};
+ghost use Rattle.net_state.specs.Fabric.{count, full_hands, held_bytes, is_full_at, samples_of, station};
+ghost use Rattle.net_state.specs.Agree.{is_settled};
+ghost use Rattle.net_state.specs.Effects.{ShowsOnly, all_put_out, shows};
+ghost use Rattle.net_state.specs.Fits.{IsHandPort};
+ghost use Rattle.net_state.specs.Lawful.{is_barred, is_command, is_lawful};
+ghost use Rattle.net_state.specs.Lines.{lost_lines};
+ghost use Rattle.net_state.specs.Starts.{next_life_at};
+ghost use Rattle.net_state.specs.declared.line.Line.TheVariants as line;
+ghost use Rattle.net_world.specs.Histories.{IsLawful, fabric_of, owner_of, with_event, world_of};
+ghost use Rattle.net_world.specs.Accounts.{placed};
+ghost use Rattle.net_world.specs.Lines.{all_lines, lines_of};
+ghost use Rattle.net_world.specs.Sound.{AllMayCome};
+ghost use Rattle.net_world.specs.Turns.{AnswersAsk, AreTold, Drives, Handled, HasBytes, IsDone, IsFit, IsToLoad, LoadsOrNot, TakesWork};
+ghost use Rattle.net_world.proofs.FitLemmas.{fit_stays};
+ghost use Rattle.net_settling.specs.Settling.{HasTime, SettlesSoon};
 ghost use Rattle.fabric_book.specs.Kept.{HasSamples, IsDrivers, history_with};
 
 use an_base::event::{Event, Journal};
 use an_base::life::Life;
-use an_base::memory::OutOfMemory;
 use an_base::place::Place;
 use an_base::port::{Note, Port, Sample};
-use fabric_state::fabric::Fabric;
-use fabric_state::hand::Hand;
-use fabric_state::line::{Line, PlacedLine};
-use fabric_state::work::{Drive, Work};
+use common_values::memory::OutOfMemory;
 use fabric_turn::Staged;
-use fabric_world::ask::{Ask, Done, Parcel, Reply, Sheet};
 use frame_region::buffer::FrameBuf;
 use net_script::script::Script;
+use net_state::fabric::Fabric;
+use net_state::hand::Hand;
+use net_state::line::{Line, PlacedLine};
+use net_state::work::{Drive, Work};
+use net_world::ask::{Ask, Done, Parcel, Reply, Sheet};
 use std::alloc::Global;
 use std::marker::Model;
 use switch_core::out::FrameOut;
 use switch_core::switch::TableFor;
 
-/// The book of a network: its whole history, and the fabric that it makes. It has room from the beginning for
-/// as many events as the script allows.
+/// The book of a network: its whole history, and the state that it makes of the network (`Fabric`). From the
+/// beginning it has room for all events that the script allows.
 #[derive(Drop)]
 pub struct Book {
     fabric: Fabric,
@@ -55,8 +55,8 @@ pub struct Book {
 
 impl Model for Book {
     ghost use Rattle.std.specs.Prelude.{vec_capacity};
-    ghost use Rattle.fabric_world.specs.Histories.{HistoryOf};
-    ghost use Rattle.fabric_world.proofs.FitLemmas.{fit_stays};
+    ghost use Rattle.net_world.specs.Histories.{HistoryOf};
+    ghost use Rattle.net_world.proofs.FitLemmas.{fit_stays};
     ghost use Rattle.fabric_book.specs.Kept.{IsKept};
 
     ghost Value = { HistoryOf };
@@ -66,7 +66,7 @@ impl Model for Book {
     ghost invariant = { λ b. IsKept b.fabric b.entries.items b.taken.items (vec_capacity b.entries) };
 }
 
-// The frames of a switch go out in turn. What is told of each is noted.
+// Sends the frames of a switch in turn, and notes the line that reports each, if any.
 fn put_all(fabric: &mut Fabric, s: Place, frames: &[FrameOut], puts: &mut [Option<Line>])
     requires within { s < count fabric.old }
     requires spelled { All IsFrameOut frames.now }
@@ -80,8 +80,8 @@ fn put_all(fabric: &mut Fabric, s: Place, frames: &[FrameOut], puts: &mut [Optio
     }
 }
 
-// A switch shows this after it has handled what it had in hand. After a frame the port alone by which it came can
-// be shown as another than before.
+// Shows what the switch shows after it has handled what it had in hand. After a frame, only the port by which it
+// came can change.
 fn show(fabric: &mut Fabric, s: Place, hand: Hand, note: &Note, spent: bool)
     requires within { s < count fabric.old }
     requires room { fabric.old.events + full_hands fabric.old < fabric.old.script.limits.events }
@@ -96,7 +96,10 @@ fn show(fabric: &mut Fabric, s: Place, hand: Hand, note: &Note, spent: bool)
 }
 
 impl Book {
-    /// The book of a network of this script, in which nothing has come yet. All the memory is taken here.
+    /// Creates the book of a network of `script`, in which no event has come. Later calls do not allocate.
+    ///
+    /// # Errors
+    /// `OutOfMemory` if an allocation fails.
     pub fn begin(alloc: Global, script: &Script) -> Result<Self, OutOfMemory>
         ensures { IfOk result (λ book. book ≡ record { script = script.now; events = [] }) }
     {
@@ -109,14 +112,14 @@ impl Book {
         })
     }
 
-    /// The fabric of the network as it stands.
+    /// Returns the state of the network.
     pub fn fabric(&self) -> &Fabric
         ensures { result.now ≡ fabric_of self.now }
     {
         &self.fabric
     }
 
-    /// The history.
+    /// Returns the history.
     pub fn entries(&self) -> &[Event]
         ensures all { result.now ≡ self.now.events }
         ensures lawful { IsLawful self.now.script self.now.events }
@@ -125,7 +128,7 @@ impl Book {
         &self.entries
     }
 
-    /// The history, as a journal.
+    /// Returns the history as a journal.
     pub fn into_journal(self) -> Journal
         ensures all { result ≡ self.events }
         ensures lawful { IsLawful self.script self.events }
@@ -133,14 +136,14 @@ impl Book {
         Journal::of(self.entries)
     }
 
-    /// Whether the network is settled and no hand is full.
+    /// Reports whether the network is settled and no hand is full.
     pub fn settled(&self) -> bool
         ensures { result ≡ (full_hands (fabric_of self.now) == 0 && is_settled (fabric_of self.now)) }
     {
         self.fabric.settled()
     }
 
-    // A line of the event that came last, with its place.
+    // Returns a line of the last event, with its place.
     fn at_its_place(&self, line: Line) -> PlacedLine
         ensures { result ≡ record { event = (fabric_of self.now).events; line = line } }
     {
@@ -150,7 +153,7 @@ impl Book {
         }
     }
 
-    // What is told of the event that came last, with its place.
+    // Returns the line that reports the last event, with its place.
     fn placed(&self, line: Option<Line>) -> Option<PlacedLine>
         ensures { option_to_list result ≡ placed (fabric_of self.now).events (option_to_list line) }
     {
@@ -160,8 +163,10 @@ impl Book {
         }
     }
 
-    /// The next work of a switch that has nothing in hand: to begin its next life, a clock, a frame, whose
-    /// bytes are in the buffer then, or nothing. After it, the line that is told of it, if there is one.
+    /// Chooses and begins the next work of the switch `s`: a restart, a clock, a frame, whose bytes are then in
+    /// `out`, or nothing. Returns it with the line that reports it, if there is one.
+    ///
+    /// The caller must pass a switch of the script that has nothing in hand.
     pub fn take(&mut self, s: Place, out: &mut FrameBuf) -> (Work, Option<PlacedLine>)
         requires within { s < length self.old.script.wires.switches }
         requires empty { is_full_at (fabric_of self.old) s ≡ false }
@@ -173,7 +178,7 @@ impl Book {
         (work, self.placed(line))
     }
 
-    // A switch begins its next work, whose event may come. Answers what is told of it.
+    // Begins the next work of a switch, whose event must be lawful. Returns the line that reports it.
     fn begin_work(&mut self, s: Place, work: &Work, out: &mut FrameBuf) -> Option<Line>
         requires next { AllMayCome (fabric_of self.old) (event_of_work s work.now) }
         requires samples { HasSamples work.now (fabric_of self.old) s }
@@ -195,8 +200,10 @@ impl Book {
         }
     }
 
-    /// What came of what a switch had in hand: its frames go out, and it shows what it does then. What is told of
-    /// each frame is noted. Answers the place of the event in the history, from 1.
+    /// Sends the frames in `done`, notes in `puts` the line that reports each, and shows what the switch `s` now
+    /// shows. Returns the place of the event in the history, from 1.
+    ///
+    /// The caller must pass what came of what `s` had in hand, and a place in `puts` for each frame.
     pub fn put(&mut self, s: Place, done: &Done, puts: &mut [Option<Line>]) -> u32
         requires within { s < length self.old.script.wires.switches }
         requires done { IsDone (world_of self.old) s done.now }
@@ -209,8 +216,10 @@ impl Book {
         self.fabric.events()
     }
 
-    /// A switch is to use the table of this sheet, and shows what stands there then. The sheet is handed back exactly
-    /// if a switch is spent or there is too little room.
+    /// Makes `s` use the table of `sheet`, and shows the note in it. Returns `NotNow` with the sheet, and changes
+    /// nothing, if and only if a switch is spent or too little room is left for events.
+    ///
+    /// The caller must pass a table that `s` is to load now.
     pub fn load(&mut self, s: Place, sheet: Box<Sheet>) -> Reply
         requires within { s < length self.old.script.wires.switches }
         requires load { IsToLoad (world_of self.old) s sheet.value.table sheet.value.note }
@@ -228,9 +237,9 @@ impl Book {
         }
     }
 
-    /// The driver does its next thing. After it, the line that is told of it, if there is one. The history
-    /// settles as soon as is claimed of each lawful one, and a history that had the time to settle is not
-    /// told to have ended unsettled.
+    /// Does the next thing of the driver. Returns it with the line that reports it, if there is one. The history
+    /// settles as soon as is claimed of each lawful one. A history that had the time to settle does not get the end
+    /// `Unsettled`.
     pub fn drive(&mut self) -> (Drive, Option<PlacedLine>)
         ensures script { self.new.script ≡ self.old.script }
         ensures did { Drives self.old.script self.old.events result.0 result.1 self.new.events }
@@ -245,7 +254,7 @@ impl Book {
         (drive, self.placed(line))
     }
 
-    // The driver makes an event, which may come and is no worker's. Answers what is told of it.
+    // Makes an event of the driver, which must be lawful. Returns the line that reports it.
     fn drive_by(&mut self, event: Event) -> Option<Line>
         requires lawful { is_lawful (fabric_of self.old) event ≡ true }
         requires driver { IsDrivers (fabric_of self.old) event }
@@ -264,7 +273,7 @@ impl Book {
 
     // ---- Each lawful event ------------------------------------------------------------------------------
 
-    // The clock of the network goes on.
+    // Advances the clock of the network.
     pub(crate) fn tick(&mut self)
         requires { is_lawful (fabric_of self.old) events.Tick ≡ true }
         ensures { self.new ≡ with_event events.Tick self.old }
@@ -273,7 +282,7 @@ impl Book {
         self.entries.push_reserved(Event::Tick);
     }
 
-    // A switch takes its clock in hand, with what the hardware says of its ports at this moment.
+    // Puts the clock in the hand of a switch, with what the hardware now says of its ports.
     pub(crate) fn clock(&mut self, s: Place, samples: [Sample; 12])
         requires lawful { is_lawful (fabric_of self.old) (events.Clock s) ≡ true }
         requires samples { samples ≡ samples_of (fabric_of self.old) s }
@@ -283,7 +292,8 @@ impl Book {
         self.entries.push_reserved(Event::Clock { s });
     }
 
-    // A switch takes a frame in hand from the wire into a port. Answers what is told of it.
+    // Takes a frame from the wire into a port, and puts it in the hand of a switch. Returns the line that reports
+    // it.
     pub(crate) fn take_at(&mut self, s: Place, port: Port, out: &mut FrameBuf) -> Option<Line>
         requires { is_lawful (fabric_of self.old) (events.Take s port) ≡ true }
         ensures taken { self.new ≡ with_event (events.Take s port) self.old }
@@ -296,8 +306,7 @@ impl Book {
         told
     }
 
-    // A switch has handled what it had in hand: these frames go out, and it shows this. What is told of each frame is
-    // noted.
+    // Ends what a switch had in hand: sends `frames`, shows `note`, and notes the line that reports each frame.
     pub(crate) fn handle(
         &mut self,
         s: Place,
@@ -321,7 +330,7 @@ impl Book {
         self.entries.push_reserved(Event::Handle { s });
     }
 
-    // A switch uses this table, and shows this then. Answers what is told of it.
+    // Makes a switch use `table`, and shows `note`. Returns the line that reports it.
     pub(crate) fn load_now(&mut self, s: Place, table: TableFor, note: &Note) -> Line
         requires lawful { is_lawful (fabric_of self.old) (events.Load s) ≡ true }
         requires load { IsToLoad (world_of self.old) s table note.now }
@@ -333,7 +342,7 @@ impl Book {
         told
     }
 
-    // A switch begins its next life. Answers this life, and what is told of it.
+    // Begins the next life of a switch. Returns this life, and the line that reports it.
     pub(crate) fn restart(&mut self, s: Place) -> (Life, Line)
         requires { is_lawful (fabric_of self.old) (events.Restart s) ≡ true }
         ensures restarted { self.new ≡ with_event (events.Restart s) self.old }
@@ -345,7 +354,7 @@ impl Book {
         begun
     }
 
-    // The next command is done, which is no restart. Answers what is told of it.
+    // Does the next command, which is no restart. Returns the line that reports it.
     pub(crate) fn command(&mut self, command: &Event) -> Option<Line>
         requires lawful { is_lawful (fabric_of self.old) command.now ≡ true }
         requires command { is_command (fabric_of self.old) command.now ≡ true }
@@ -358,7 +367,7 @@ impl Book {
         told
     }
 
-    // A packet makes one hop. Answers what is told of it.
+    // Moves a packet by one hop. Returns the line that reports it.
     pub(crate) fn hop(&mut self, packet: u32) -> Line
         requires { is_lawful (fabric_of self.old) (events.Move packet) ≡ true }
         ensures moved { self.new ≡ with_event (events.Move packet) self.old }

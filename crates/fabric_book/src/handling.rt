@@ -7,28 +7,28 @@ ghost use Rattle.net_script.specs.Scripts.{IsScript};
 ghost use Rattle.port_monitor.specs.Histories.{externals};
 ghost use Rattle.switch_core.specs.Switch.{SwitchOf, finish_of, note_of, started_as};
 ghost use Rattle.switch_core.specs.Kept.{IsWorking, StandsFor};
-ghost use Rattle.fabric_state.specs.Fabric.{is_empty};
-ghost use Rattle.fabric_state.specs.Fits.{IsHandPort};
-ghost use Rattle.fabric_state.specs.Lawful.{is_lawful};
-ghost use Rattle.fabric_world.specs.Histories.{fabric_of, with_event, world_of};
-ghost use Rattle.fabric_world.specs.Lines.{finish_lines, join_lines, lines_of, port_line, no_epoch_lines};
-ghost use Rattle.fabric_world.specs.World.{handles};
+ghost use Rattle.net_state.specs.Fabric.{is_empty};
+ghost use Rattle.net_state.specs.Fits.{IsHandPort};
+ghost use Rattle.net_state.specs.Lawful.{is_lawful};
+ghost use Rattle.net_world.specs.Histories.{fabric_of, with_event, world_of};
+ghost use Rattle.net_world.specs.Lines.{finish_lines, join_lines, lines_of, port_line, no_epoch_lines};
+ghost use Rattle.net_world.specs.World.{handles};
 ghost use Rattle.fabric_book.specs.Nets.{IsHandled, IsSameOrNext, IsSwitchKept};
 ghost use Rattle.fabric_book.specs.Told.{hand_lines};
 
 use crate::book::Book;
 use crate::lines::Lines;
 use crate::telling::{tell_finish, tell_noise, tell_port, tell_ports};
-use an_base::memory::OutOfMemory;
 use an_base::place::Place;
 use an_base::port::{Note, Port};
-use fabric_state::hand::Hand;
-use fabric_state::line::Line;
-use fabric_state::station::write_note;
+use common_values::memory::OutOfMemory;
+use net_state::hand::Hand;
+use net_state::line::Line;
+use net_state::station::write_note;
 use switch_core::out::Out;
 use switch_core::switch::{ClockRefusal, Switch};
 
-// A switch does with what it has in hand what it does. After want of memory it is as it was started, and no frame
+// Makes a switch do what it does with what it has in hand. If memory runs out it is as it was started, and no frame
 // goes out.
 fn work(switch: &mut Switch, hand: Hand, bytes: &[u8], out: &mut Out) -> Result<(), OutOfMemory>
     requires full { is_empty hand ≡ false }
@@ -53,8 +53,8 @@ fn work(switch: &mut Switch, hand: Hand, bytes: &[u8], out: &mut Out) -> Result<
     }
 }
 
-// The lines of an epoch that a switch joined, of one that it finished, and that no epoch is left for it, each
-// if it is so.
+// Adds a line for an epoch that the switch joined, one for an epoch that it finished, and one if no epoch is left
+// for it.
 fn tell_epochs(
     s: Place,
     before: u64,
@@ -76,8 +76,8 @@ fn tell_epochs(
     Ok(())
 }
 
-// A switch has handled what it had in hand, before which it showed what is noted. Notes what it shows now; a line of
-// each port whose state changed is added. After a frame this can only be the port by which it came.
+// Updates `note`, which is what the switch showed before it handled what it had in hand, and adds a line for each
+// port whose state changed. After a frame this can only be the port by which it came.
 fn show(
     switch: &Switch,
     s: Place,
@@ -108,8 +108,13 @@ fn show(
     }
 }
 
-/// A switch handles what it has in hand, before which it showed what is noted; all lines of it are added but those
-/// of frames. Notes what it shows now; `room` is room for a note.
+/// Makes the switch at `s` handle `hand`, and, if `note` is what it showed before, adds all lines of it except
+/// those about frames, and updates `note` to what it now shows. `room` is scratch space for a note.
+///
+/// The caller must pass a working switch with fewer than 2^28 works, and a hand that is not empty.
+///
+/// # Errors
+/// `OutOfMemory` if an allocation fails. The contents of `out`, `note` and `lines` are then unspecified.
 pub fn handle(
     switch: &mut Switch,
     s: Place,
@@ -142,7 +147,7 @@ pub fn handle(
     Ok(())
 }
 
-/// The switch at a place handles what it has in hand, and the book takes what came of it; the lines are added.
+/// Makes the switch at `s` handle what it has in hand, records the result in the book, and adds the lines.
 pub(crate) fn handle_at(
     book: &mut Book,
     switch: &mut Switch,
@@ -172,7 +177,7 @@ pub(crate) fn handle_at(
     lines.push_all(puts)
 }
 
-/// The switch at a place loads the table that is due, and the book takes it; the line is added.
+/// Makes the switch at `s` load the table that is due, records it in the book, and adds the line.
 pub(crate) fn load_at(
     book: &mut Book,
     switch: &mut Switch,

@@ -1,15 +1,15 @@
-//! What is told of an event, or of several.
+//! The lines that report one or several events.
 
 ghost use Rattle.std.specs.Prelude.{◌≡◌, ◌++◌, ◌∷◌, [], option_to_list, OnOk, OnErr};
 ghost use Rattle.std.specs.List.{flat_map};
 ghost use Rattle.fabric_book.specs.Told.{line_if};
 
-use an_base::memory::OutOfMemory;
-use fabric_state::line::Line;
+use common_values::memory::OutOfMemory;
+use net_state::line::Line;
 use std::alloc::Global;
 use std::marker::Model;
 
-/// What is told of an event, or of several, in order, which contracts see as a list.
+/// The lines that report one or several events, in order. Contracts see them as a list.
 #[derive(Drop)]
 pub struct Lines {
     lines: Vec<Line>,
@@ -17,7 +17,7 @@ pub struct Lines {
 
 impl Model for Lines {
     ghost use Rattle.std.specs.Prelude.{List};
-    ghost use Rattle.fabric_state.specs.declared.line.Line.{Line};
+    ghost use Rattle.net_state.specs.declared.line.Line.{Line};
 
     ghost Value = { List Line };
 
@@ -25,7 +25,7 @@ impl Model for Lines {
 }
 
 impl Lines {
-    /// No lines, without taking memory. The allocator is kept for the lines that come.
+    /// Creates an empty list without allocating. `alloc` is kept for later lines.
     pub fn new(alloc: Global) -> Self
         ensures { result ≡ [] }
     {
@@ -34,21 +34,24 @@ impl Lines {
         }
     }
 
-    /// The lines in their order.
+    /// Returns the lines in their order.
     pub fn as_slice(&self) -> &[Line]
         ensures { result.now ≡ self.now }
     {
         &self.lines
     }
 
-    /// No lines again; the memory is kept.
+    /// Removes all lines, and keeps their memory.
     pub fn clear(&mut self)
         ensures { self.new ≡ [] }
     {
         self.lines.clear();
     }
 
-    /// Adds a line at the end. After want of memory the lines are as they were.
+    /// Adds `line` at the end.
+    ///
+    /// # Errors
+    /// `OutOfMemory`. The lines are then unchanged.
     pub fn push(&mut self, line: Line) -> Result<(), OutOfMemory>
         ensures ok { OnOk result (self.new ≡ self.old ++ line ∷ []) }
         ensures err { OnErr result (self.new ≡ self.old) }
@@ -68,7 +71,10 @@ impl Lines {
         }
     }
 
-    /// Adds those lines at the end that are there. After want of memory nothing is said of the lines.
+    /// Adds those lines of `told` that exist at the end.
+    ///
+    /// # Errors
+    /// `OutOfMemory`. Which lines there are then is unspecified.
     pub fn push_all(&mut self, told: &[Option<Line>]) -> Result<(), OutOfMemory>
         ensures { OnOk result (self.new ≡ self.old ++ flat_map option_to_list told.now) }
     {
@@ -78,7 +84,7 @@ impl Lines {
         Ok(())
     }
 
-    // Adds a line at the end if something is so.
+    // Adds `line` at the end if `so` is true.
     pub(crate) fn push_if(&mut self, so: bool, line: Line) -> Result<(), OutOfMemory>
         ensures { OnOk result (self.new ≡ self.old ++ line_if so line) }
     {

@@ -4,13 +4,13 @@ ghost use Rattle.std.specs.Prelude.{◌≡◌, ◌++◌, ◌<◌, ◌≤◌, tru
 ghost use Rattle.an_base.specs.declared.event.Event.TheVariants as events;
 ghost use Rattle.net_script.specs.Commands.{is_restart};
 ghost use Rattle.net_script.specs.Scripts.{IsScript};
-ghost use Rattle.fabric_state.specs.Agree.{ending_of};
-ghost use Rattle.fabric_state.specs.Choices.{event_of_drive, event_of_work, next_drive, next_work};
-ghost use Rattle.fabric_state.specs.Fabric.{is_full_at, load_due_at, station, table_at};
-ghost use Rattle.fabric_state.specs.Lawful.{is_command, is_lawful};
-ghost use Rattle.fabric_world.specs.Histories.{IsLawful, fabric_of, last_taken, world_of};
-ghost use Rattle.fabric_world.specs.Lines.{lines_of};
-ghost use Rattle.fabric_world.specs.Solo.{worker_event};
+ghost use Rattle.net_state.specs.Agree.{ending_of};
+ghost use Rattle.net_state.specs.Choices.{event_of_drive, event_of_work, next_drive, next_work};
+ghost use Rattle.net_state.specs.Fabric.{is_full_at, load_due_at, station, table_at};
+ghost use Rattle.net_state.specs.Lawful.{is_command, is_lawful};
+ghost use Rattle.net_world.specs.Histories.{IsLawful, fabric_of, last_taken, world_of};
+ghost use Rattle.net_world.specs.Lines.{lines_of};
+ghost use Rattle.net_world.specs.Solo.{worker_event};
 ghost use Rattle.fabric_book.specs.declared.net.StepRefusal.TheVariants as refusal;
 ghost use Rattle.fabric_book.specs.Nets.{AreStarted, all_powers, history_of, with_events, with_step};
 ghost use Rattle.fabric_book.specs.Rounds.{drive_lines};
@@ -21,17 +21,17 @@ use crate::lines::Lines;
 use crate::power::PowerOn;
 use an_base::event::{Event, Journal};
 use an_base::life::Life;
-use an_base::memory::OutOfMemory;
 use an_base::place::Place;
 use an_base::port::{Note, Port};
-use fabric_state::ending::Ending;
-use fabric_state::fabric::Fabric;
-use fabric_state::line::Line;
-use fabric_state::station::started_note;
-use fabric_state::work::{Drive, Work};
+use common_values::memory::OutOfMemory;
 use frame_region::buffer::FrameBuf;
 use net_graph::wiring::Wiring;
 use net_script::script::Script;
+use net_state::ending::Ending;
+use net_state::fabric::Fabric;
+use net_state::line::Line;
+use net_state::station::started_note;
+use net_state::work::{Drive, Work};
 use std::alloc::Global;
 use std::marker::Model;
 use switch_core::out::Out;
@@ -41,9 +41,9 @@ use table_build::table::Table;
 /// Why an event was not made.
 #[derive(Clone, Copy, PartialEq, Eq)]
 pub enum StepRefusal {
-    /// It is not lawful; nothing has changed.
+    /// The event is not lawful; nothing has changed.
     NotLawful,
-    /// No memory was found; the network is only good to be dropped.
+    /// An allocation failed; the network can then only be dropped.
     OutOfMemory,
 }
 
@@ -57,8 +57,8 @@ impl From<OutOfMemory> for StepRefusal {
     }
 }
 
-/// A network on one thread. While a switch does something it is marked as lost, and it stays so if memory
-/// is wanting: then the switch and the book have parted, and it is only good to be dropped.
+/// A network on one thread. While a switch does something, the network is marked as lost. If memory runs out it
+/// stays marked, because the switch and the book no longer agree, and it can only be dropped.
 #[derive(Drop)]
 pub struct Net {
     alloc: Global,
@@ -73,7 +73,7 @@ pub struct Net {
     puts: Vec<Option<Line>>,
 }
 
-// With what each switch of a script is started.
+// Returns what each switch of a script is started with.
 fn powers(alloc: Global, script: &Script) -> Result<Vec<PowerOn>, OutOfMemory>
     ensures { IfOk result (λ powers. powers.items ≡ all_powers script.now) }
 {
@@ -85,7 +85,7 @@ fn powers(alloc: Global, script: &Script) -> Result<Vec<PowerOn>, OutOfMemory>
     Ok(powers)
 }
 
-// Each switch of a wiring begins its first life.
+// Starts each switch of a wiring in its first life.
 fn start_all(alloc: Global, wiring: &Wiring, powers: &[PowerOn]) -> Result<Vec<Switch>, OutOfMemory>
     requires { length powers.now ≡ length wiring.now.switches }
     ensures { IfOk result (λ switches. AreStarted powers.now wiring.now switches.items) }
@@ -99,7 +99,7 @@ fn start_all(alloc: Global, wiring: &Wiring, powers: &[PowerOn]) -> Result<Vec<S
     Ok(switches)
 }
 
-// With what each switch of a script is started, and the switches themselves, each in its first life.
+// Returns what each switch of a script is started with, and the switches, each in its first life.
 fn started(alloc: Global, script: &Script) -> Result<(Vec<PowerOn>, Vec<Switch>), OutOfMemory>
     ensures powers { IfOk result (λ r. r.0.items ≡ all_powers script.now) }
     ensures switches { IfOk result (λ r. AreStarted r.0.items script.now.wires r.1.items) }
@@ -109,7 +109,7 @@ fn started(alloc: Global, script: &Script) -> Result<(Vec<PowerOn>, Vec<Switch>)
     Ok((powers, switches))
 }
 
-// A buffer for each of so many switches.
+// Returns `count` buffers.
 fn buffers(alloc: Global, count: u8) -> Result<Vec<FrameBuf>, OutOfMemory>
     ensures { IfOk result (λ buffers. length buffers.items ≡ count) }
 {
@@ -131,7 +131,10 @@ impl Model for Net {
 }
 
 impl Net {
-    /// The network of a script, in which nothing has come yet.
+    /// Creates the network of `script`, in which no event has come.
+    ///
+    /// # Errors
+    /// `OutOfMemory` if an allocation fails.
     pub fn begin(alloc: Global, script: &Script) -> Result<Self, OutOfMemory>
         ensures { IfOk result (λ net. net ≡ record { script = script.now; events = []; lost = false }) }
     {
@@ -152,28 +155,28 @@ impl Net {
         })
     }
 
-    /// The fabric as it stands.
+    /// Returns the state of the network.
     pub fn fabric(&self) -> &Fabric
         ensures { result.now ≡ fabric_of (history_of self.now) }
     {
         self.book.fabric()
     }
 
-    /// The end that has come, if one has.
+    /// Returns the end that has come, if one has.
     pub fn end(&self) -> Option<Ending>
         ensures { result ≡ ending_of (fabric_of (history_of self.now)) }
     {
         self.fabric().end()
     }
 
-    /// The tick of its clock.
+    /// Returns the tick of the network's clock.
     pub fn now(&self) -> u32
         ensures { result ≡ (fabric_of (history_of self.now)).tick }
     {
         self.fabric().now()
     }
 
-    /// The present life of a switch.
+    /// Returns the present life of the switch `s`, which must be one of the script's.
     pub fn life(&self, s: Place) -> Life
         requires { s < length self.now.script.wires.switches }
         ensures { result ≡ (station (fabric_of (history_of self.now)) s).note.life }
@@ -181,14 +184,14 @@ impl Net {
         self.fabric().station(s).note().life
     }
 
-    /// The table in use at a switch. It answers for all values.
+    /// Returns the table in use at the switch `s`, if there is one. It accepts every value of `s`.
     pub fn table(&self, s: Place) -> Option<&Table>
         ensures { option_copied result ≡ table_at (fabric_of (history_of self.now)) s }
     {
         self.fabric().table(s)
     }
 
-    /// The history, as a journal.
+    /// Returns the history as a journal.
     pub fn into_journal(self) -> Journal
         ensures all { result ≡ self.events }
         ensures lawful { IsLawful self.script self.events }
@@ -196,8 +199,11 @@ impl Net {
         self.book.into_journal()
     }
 
-    /// Makes an event, if it is lawful, and adds what is told of it. If it is not lawful, the network and the
-    /// lines are as they were. After want of memory nothing is said of either.
+    /// Makes `event`, and adds the lines that report it. The network must not be marked as lost.
+    ///
+    /// # Errors
+    /// `NotLawful` if the event is not lawful; the network and the lines are then unchanged. `OutOfMemory` if an
+    /// allocation fails; both are then unspecified.
     pub fn step(&mut self, event: &Event, lines: &mut Lines) -> Result<(), StepRefusal>
         requires { self.old.lost ≡ false }
         ensures lawful { OnOk result (is_lawful (fabric_of (history_of self.old)) event.now ≡ true) }
@@ -214,7 +220,7 @@ impl Net {
         Ok(())
     }
 
-    // A lawful event is made.
+    // Makes a lawful event.
     fn make(&mut self, event: Event, lines: &mut Lines) -> Result<(), OutOfMemory>
         requires here { self.old.lost ≡ false }
         requires lawful { is_lawful (fabric_of (history_of self.old)) event ≡ true }
@@ -239,7 +245,7 @@ impl Net {
         }
     }
 
-    // The clock of the network goes on.
+    // Advances the clock of the network.
     fn tick(&mut self)
         requires here { self.old.lost ≡ false }
         requires lawful { is_lawful (fabric_of (history_of self.old)) events.Tick ≡ true }
@@ -248,7 +254,7 @@ impl Net {
         self.book.tick();
     }
 
-    // A switch takes its clock in hand.
+    // Puts its clock in the hand of a switch.
     fn clock(&mut self, s: Place)
         requires here { self.old.lost ≡ false }
         requires lawful { is_lawful (fabric_of (history_of self.old)) (events.Clock s) ≡ true }
@@ -258,7 +264,7 @@ impl Net {
         self.book.clock(s, samples);
     }
 
-    // A switch takes a frame; a line if a copy was lost, which names the end that sent it.
+    // Puts a frame in the hand of a switch. If a copy was lost, adds a line that names the end that sent it.
     fn take(&mut self, s: Place, port: Port, lines: &mut Lines) -> Result<(), OutOfMemory>
         requires here { self.old.lost ≡ false }
         requires lawful { is_lawful (fabric_of (history_of self.old)) (events.Take s port) ≡ true }
@@ -268,7 +274,7 @@ impl Net {
         lines.push_some(self.book.take_at(s, port, &mut self.bytes[usize::from(s)]))
     }
 
-    // A switch handles what it has in hand.
+    // Makes a switch handle what it has in hand.
     fn handle(&mut self, s: Place, lines: &mut Lines) -> Result<(), OutOfMemory>
         requires here { self.old.lost ≡ false }
         requires lawful { is_lawful (fabric_of (history_of self.old)) (events.Handle s) ≡ true }
@@ -292,7 +298,7 @@ impl Net {
         Ok(())
     }
 
-    // A switch loads the table that is due.
+    // Makes a switch load the table that is due.
     fn load(&mut self, s: Place, lines: &mut Lines) -> Result<(), OutOfMemory>
         requires here { self.old.lost ≡ false }
         requires lawful { is_lawful (fabric_of (history_of self.old)) (events.Load s) ≡ true }
@@ -305,7 +311,7 @@ impl Net {
         Ok(())
     }
 
-    // A packet makes one hop.
+    // Moves a packet by one hop.
     fn hop(&mut self, packet: u32, lines: &mut Lines) -> Result<(), OutOfMemory>
         requires here { self.old.lost ≡ false }
         requires lawful { is_lawful (fabric_of (history_of self.old)) (events.Move packet) ≡ true }
@@ -315,8 +321,8 @@ impl Net {
         lines.push(self.book.hop(packet))
     }
 
-    // A switch begins its next life. It stands apart from `make`, which would else have room for a new switch at each
-    // call, though a restart is rare.
+    // Begins the next life of a switch. It is apart from `make`, which would otherwise make room for a new switch
+    // at each call, though a restart is rare.
     #[cold]
     #[inline(never)]
     fn restart(&mut self, s: Place, lines: &mut Lines) -> Result<(), OutOfMemory>
@@ -334,7 +340,7 @@ impl Net {
         lines.push(told)
     }
 
-    // The next command is done.
+    // Does the next command.
     fn command(&mut self, command: Event, lines: &mut Lines) -> Result<(), OutOfMemory>
         requires here { self.old.lost ≡ false }
         requires lawful { is_lawful (fabric_of (history_of self.old)) command ≡ true }
@@ -346,7 +352,7 @@ impl Net {
         lines.push_some(self.book.command(&command))
     }
 
-    // A switch whose hand is empty takes its next work, as the book chooses it; false if it has none.
+    // Gives a switch whose hand is empty its next work, as the book chooses it. Returns false if it has none.
     fn take_work(&mut self, s: Place) -> Result<bool, OutOfMemory>
         requires here { self.old.lost ≡ false }
         requires within { s < length self.old.script.wires.switches }
@@ -372,7 +378,7 @@ impl Net {
         }
     }
 
-    // Whether a switch has a table to load.
+    // Reports whether a switch has a table to load.
     fn load_due(&self, s: Place) -> bool
         requires { s < length self.now.script.wires.switches }
         ensures { result ≡ load_due_at (fabric_of (history_of self.now)) s }
@@ -380,7 +386,7 @@ impl Net {
         self.fabric().station(s).note().load_due
     }
 
-    // A worker does its next thing; false if it has none.
+    // Does the next thing of a worker. Returns false if it has none.
     pub(crate) fn turn(&mut self, s: Place, lines: &mut Lines) -> Result<bool, OutOfMemory>
         requires here { self.old.lost ≡ false }
         requires within { s < length self.old.script.wires.switches }
@@ -404,7 +410,7 @@ impl Net {
         self.take_work(s)
     }
 
-    // The driver does its next thing, and adds what is told of it.
+    // Does the next thing of the driver, and adds the lines that report it.
     pub(crate) fn drive(&mut self, lines: &mut Lines) -> Result<Drive, OutOfMemory>
         requires { self.old.lost ≡ false }
         ensures script { OnOk result (IsScript self.new.script) }

@@ -1,18 +1,18 @@
-//! With what a switch is started in each of its lives.
+//! What a switch is started with in each of its lives.
 
 ghost use Rattle.std.specs.Prelude.{◌≡◌, ◌<◌, length, IfOk};
 ghost use Rattle.fabric_book.specs.Nets.{IsStarted, power_of, start_with};
 
 use an_base::life::Life;
-use an_base::memory::OutOfMemory;
 use an_base::place::Place;
+use common_values::memory::OutOfMemory;
 use net_script::script::Script;
 use std::alloc::Global;
 use std::marker::Model;
 use switch_core::switch::Switch;
 
-/// With what a switch is started in each of its lives: the epoch, the number that it had before, 1 to 126, and
-/// whether its tables have all legal routes.
+/// What a switch is started with in each of its lives: the epoch, the short address that it had before, 1 to 126,
+/// and whether its tables have all legal routes.
 #[derive(Clone, Copy)]
 pub struct PowerOn {
     epoch: u64,
@@ -35,7 +35,7 @@ impl Model for PowerOn {
 }
 
 impl PowerOn {
-    /// With what the switch at a place of the script is started.
+    /// Returns what the switch at `s` is started with. The caller must pass a switch of the script.
     pub fn of(script: &Script, s: Place) -> PowerOn
         requires { s < length script.now.wires.switches }
         ensures { result ≡ power_of script.now s }
@@ -47,7 +47,10 @@ impl PowerOn {
         }
     }
 
-    /// The switch begins this life.
+    /// Starts the switch in the life `life`.
+    ///
+    /// # Errors
+    /// `OutOfMemory` if an allocation fails.
     pub fn start(self, alloc: Global, life: Life) -> Result<Switch, OutOfMemory>
         ensures { IfOk result (IsStarted (start_with self life)) }
     {

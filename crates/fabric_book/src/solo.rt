@@ -2,20 +2,20 @@
 
 ghost use Rattle.std.specs.Prelude.{◌≡◌, ◌+◌, ◌<◌, length, IfOk, OnOk};
 ghost use Rattle.net_script.specs.Scripts.{IsScript};
-ghost use Rattle.fabric_world.specs.Histories.{IsLegal};
-ghost use Rattle.fabric_world.specs.Solo.{IsSolo};
-ghost use Rattle.fabric_world.specs.World.{begun, world_after};
+ghost use Rattle.net_world.specs.Histories.{IsLegal};
+ghost use Rattle.net_world.specs.Solo.{IsSolo};
+ghost use Rattle.net_world.specs.World.{begun, world_after};
 ghost use Rattle.fabric_book.specs.Nets.{driver_lines};
 ghost use Rattle.fabric_book.specs.Rounds.{AreIdleBefore, GoesOn, HasDriven, IsIdleAt, IsTurnOf, IsTurnOfDriver, told_of};
 
 use crate::lines::Lines;
 use crate::net::Net;
 use an_base::event::Journal;
-use an_base::memory::OutOfMemory;
 use an_base::place::Place;
-use fabric_state::ending::Ending;
-use fabric_state::work::Drive;
+use common_values::memory::OutOfMemory;
 use net_script::script::Script;
+use net_state::ending::Ending;
+use net_state::work::Drive;
 use std::alloc::Global;
 
 /// A run: its journal, and its end.
@@ -27,18 +27,18 @@ pub struct Run {
     pub end: Ending,
 }
 
-/// A run, with what was told of the events of its driver, and the tick at its end.
+/// A run, with the lines that report the events of its driver, and the tick at its end.
 #[derive(Drop)]
 pub struct ToldRun {
     /// The run.
     pub run: Run,
-    /// What was told of the events of the driver, in order.
+    /// The lines that report the events of the driver, in order.
     pub told: Lines,
     /// The tick at the end.
     pub tick: u32,
 }
 
-// A switch does all that it has to do.
+// Makes a switch do all that it has to do.
 fn work_out(net: &mut Net, s: Place, lines: &mut Lines) -> Result<(), OutOfMemory>
     requires turn { IsTurnOf s net.old }
     requires within { s < length net.old.script.wires.switches }
@@ -53,7 +53,7 @@ fn work_out(net: &mut Net, s: Place, lines: &mut Lines) -> Result<(), OutOfMemor
     Ok(())
 }
 
-// Each switch in the order of the script does all that it has to do.
+// Makes each switch do all that it has to do, in the order of the script.
 fn work_all(net: &mut Net, lines: &mut Lines) -> Result<(), OutOfMemory>
     requires { IsTurnOf 0 net.old }
     ensures turn { OnOk result (IsTurnOfDriver net.new) }
@@ -68,7 +68,7 @@ fn work_all(net: &mut Net, lines: &mut Lines) -> Result<(), OutOfMemory>
     Ok(())
 }
 
-// The driver drives until it waits, or an end has come. What is told of it is added.
+// Makes the driver drive until it waits or an end has come, and adds the lines that report it.
 fn drive_all(net: &mut Net, told: &mut Lines) -> Result<Option<Ending>, OutOfMemory>
     requires turn { IsTurnOfDriver net.old }
     requires told { told.old ≡ told_of net.old }
@@ -86,7 +86,8 @@ fn drive_all(net: &mut Net, told: &mut Lines) -> Result<Option<Ending>, OutOfMem
     }
 }
 
-// Rounds, until an end has come: the switches in the order of the script, and the driver. What is told of it is added.
+// Makes rounds until an end has come: the switches in the order of the script, then the driver. Adds the lines that
+// report the driver's events.
 fn go_round(net: &mut Net, lines: &mut Lines, told: &mut Lines) -> Result<Ending, OutOfMemory>
     requires turn { IsTurnOf 0 net.old }
     requires told { told.old ≡ told_of net.old }
@@ -102,8 +103,11 @@ fn go_round(net: &mut Net, lines: &mut Lines, told: &mut Lines) -> Result<Ending
     }
 }
 
-/// The run of a script on one thread: the switches in the order of the script, each while it has work; then
-/// the driver, until it waits; and again. With it what was told of the driver's events, and the tick at the end.
+/// Runs `script` on one thread: the switches in the order of the script, each while it has work; then the driver,
+/// until it waits; and again. Also returns the lines that report the driver's events, and the tick at the end.
+///
+/// # Errors
+/// `OutOfMemory` if an allocation fails.
 pub fn solo(alloc: Global, script: &Script) -> Result<ToldRun, OutOfMemory>
     ensures solo { IfOk result (λ all. IsSolo script.now all.run.journal all.run.end) }
     ensures legal { IfOk result (λ all. IsLegal script.now all.run.journal all.run.end) }

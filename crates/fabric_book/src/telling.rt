@@ -1,32 +1,32 @@
-//! What is told of what a switch does.
+//! The lines that report what a switch does.
 
 ghost use Rattle.std.specs.Prelude.{◌≡◌, ◌==◌, ◌++◌, not, OnOk};
 ghost use Rattle.std.specs.List.{flat_map};
 ghost use Rattle.port_monitor.specs.Histories.{externals};
 ghost use Rattle.switch_core.specs.Switch.{SwitchOf, finish_of};
 ghost use Rattle.switch_core.specs.Kept.{StandsFor};
-ghost use Rattle.fabric_state.specs.PortStates.{state_code};
-ghost use Rattle.fabric_state.specs.declared.line.Line.TheVariants as line;
-ghost use Rattle.fabric_world.specs.Lines.{finish_line, port_line};
+ghost use Rattle.net_state.specs.PortStates.{state_code};
+ghost use Rattle.net_state.specs.declared.line.Line.TheVariants as line;
+ghost use Rattle.net_world.specs.Lines.{finish_line, port_line};
 ghost use Rattle.fabric_book.specs.Told.{line_if, noise_lines};
 
 use crate::lines::Lines;
 use an_base::limits::LAST_PORT;
-use an_base::memory::OutOfMemory;
 use an_base::place::Place;
 use an_base::port::{Note, Port, PortState, PortView};
-use fabric_state::hand::Hand;
-use fabric_state::line::Line;
+use common_values::memory::OutOfMemory;
+use net_state::hand::Hand;
+use net_state::line::Line;
 use switch_core::switch::Switch;
 
-// Whether two states are one.
+// Reports whether two states are equal.
 fn is_same_state(one: PortState, other: PortState) -> bool
     ensures { result ≡ (state_code one == state_code other) }
 {
     one == other
 }
 
-/// A line if the state of a port changed.
+/// Adds a line if the state of a port changed.
 pub(crate) fn tell_port(
     s: Place,
     port: Port,
@@ -48,7 +48,7 @@ pub(crate) fn tell_port(
     })
 }
 
-/// A line for each port whose state changed, by rising port.
+/// Adds a line for each port whose state changed, in ascending order of port.
 pub(crate) fn tell_ports(
     s: Place,
     before: &Note,
@@ -65,7 +65,7 @@ pub(crate) fn tell_ports(
     Ok(())
 }
 
-/// A line if what came in is no frame.
+/// Adds a line if what came in is no frame.
 pub(crate) fn tell_noise(
     s: Place,
     hand: Hand,
@@ -86,7 +86,7 @@ pub(crate) fn tell_noise(
     }
 }
 
-/// A line if a switch has finished its epoch.
+/// Adds a line if a switch has finished its epoch.
 pub(crate) fn tell_finish(
     s: Place,
     epoch: u64,

@@ -1,23 +1,25 @@
-//! The program of `judge`, `ranks`, `verify` and `dot` alone, which is proved and built long before that of all commands.
+//! fabric, commands: the small program with only `judge`, `ranks`, `verify` and `dot`, which is proved and built long
+//! before the program with all commands.
 //!
-//! It has no contract of its own: what it prints, and its status, are those of the call.
+//! It has no contract of its own: its output and its exit status are those of the call.
 #![tactic(auto)]
 
-use an_base::memory::OutOfMemory;
-use an_base::text::Word;
-use calling::words::words_of_call;
-use ib_answering::status::{Status, finish};
-use ib_judging::input::Input;
-use ib_judging::question::answer_question;
-use ib_judging::words::{Call, Task, call_of, file_of};
+use common_call::words::words_of_call;
+use common_values::memory::OutOfMemory;
+use common_values::text::Word;
+use fabric_call::status::{Status, finish};
+use fabric_judge_call::input::Input;
+use fabric_judge_call::question::answer_question;
+use fabric_judge_call::words::{Call, Task, call_of, file_of};
 use outside::standard::{StdSink, StdSource};
 use std::process::ExitCode;
 
 // Answers the words over the files that they name.
 fn answer(rt: &HostRuntime, words: &[Word]) -> u8 {
-    let mut topology = StdSource::new(Input::named(rt, rt.stdin(), file_of(words, 0)));
-    let mut tables = StdSource::new(Input::named(rt, rt.stdin(), file_of(words, 1)));
-    let mut ranks = StdSource::new(Input::named(rt, rt.stdin(), file_of(words, 2)));
+    let call = call_of(words);
+    let mut topology = StdSource::new(Input::named(rt, rt.stdin(), file_of(words, call, 0)));
+    let mut tables = StdSource::new(Input::named(rt, rt.stdin(), file_of(words, call, 1)));
+    let mut ranks = StdSource::new(Input::named(rt, rt.stdin(), file_of(words, call, 2)));
     let mut out = StdSink::new(rt.stdout());
     let mut err = StdSink::new(rt.stderr());
     let Some(
@@ -26,7 +28,7 @@ fn answer(rt: &HostRuntime, words: &[Word]) -> u8 {
             traffic,
             ..
         },
-    ) = call_of(words)
+    ) = call
     else {
         return finish(&mut err, Status::Usage);
     };

@@ -1,7 +1,7 @@
 -- Histories: lists of entries, each of one caller.
 use Rattle.std.specs.Prelude.{◌≡◌, ℕ, List, [], ◌∷◌, ◌++◌, ◌⊎◌, ◌==◌, filter}
 
--- the second history goes on from the first
+-- the second history extends the first
 abbrev pub Extends : {E : Type 0} → List E → List E → Type 0
 Extends {E} before after = (more : List E) × (after ≡ before ++ more)
 
@@ -14,7 +14,7 @@ module _ {E : Type 0} (owner : E → ℕ) where
   abbrev pub NoneOf : ℕ → List E → Type 0
   NoneOf caller history = own_entries history caller ≡ []
 
-  -- nothing, or one entry of the caller
+  -- the list is empty, or has one entry of the caller
   abbrev pub Adds : ℕ → List E → Type 0
   Adds caller added = (added ≡ []) ⊎ ((entry : E) × (added ≡ entry ∷ []) × (owner entry ≡ caller))
 

@@ -13,18 +13,18 @@ module _ {E : Type 0} where
   abbrev pub ended_caller : ℕ → List E → Ended E
   ended_caller number mine = record { number = number; mine = mine }
 
-  -- so many numbers from one on, which no caller had
+  -- n numbers from `one` on, which no caller had
   abbrev pub unused_callers : ℕ → ℕ → List (Ended E)
   unused_callers from zero = []
   unused_callers from (suc count) = ended_caller from [] ∷ unused_callers (suc from) count
 
 module _ {E D : Type 0} where
-  -- what the given seat of a split goes on with: it has given its next number
+  -- the view with which the given seat of a split continues: it has given its next number
   abbrev pub remaining_view : View E D → View E D
   remaining_view view = record view { next = view.next + 1 }
 
-  -- what the new caller of a split knows: it has that number, no entry of its own and no number to give, and
-  -- has seen what the given seat has
+  -- what the new caller of a split knows: it has that number, no entry of its own and no number to give, and has
+  -- seen what the given seat has
   abbrev pub new_view : View E D → View E D
   new_view view = record {
     stage = Idle;
@@ -38,23 +38,23 @@ module _ {E D : Type 0} where
     heard = [];
   }
 
-  -- whom the first view of a join has ended after it: those that it had, the caller of the second, those that
-  -- this had, and the numbers that it never gave
+  -- the callers that the first view of a join has ended after it: those that it had, the caller of the second,
+  -- those that the second had, and the numbers that it never gave
   abbrev pub ended_after_join : View E D → View E D → List (Ended E)
   ended_after_join one other =
       one.ended ++ ended_caller other.number other.mine
       ∷ (other.ended ++ unused_callers other.next (other.callers - other.next))
 
-  -- what the seat knows to which another was joined
+  -- what the seat to which another was joined knows
   abbrev pub joined_view : View E D → View E D → View E D
   joined_view one other =
       record one { seen = longer_of one.seen other.seen; ended = ended_after_join one other }
 
-  -- the same before the two histories were compared
+  -- what that seat knows before the two histories are compared
   abbrev pub merged_view : View E D → View E D → View E D
   merged_view one other = record one { ended = ended_after_join one other; heard = other.seen }
 
-  -- the same seat after the comparison
+  -- what that seat knows after the comparison
   abbrev pub compared_view : View E D → View E D
   compared_view view = record view { seen = longer_of view.seen view.heard; heard = [] }
 
@@ -72,10 +72,10 @@ module _ {E D : Type 0} where
     heard = [];
   }
 
-  -- each number is the view's own, one that it may give, or an ended caller's: as many as there are in all
+  -- every caller number is the view's own, one that it can give, or an ended caller's
   abbrev pub HasAllNumbers : View E D → Type 0
   HasAllNumbers view = 1 + (view.callers - view.next) + length view.ended ≡ view.callers
 
-  -- the view has its own number and no other, of so many in all
+  -- the view has its own number and no other, of n numbers
   abbrev pub HasOneNumber : ℕ → View E D → Type 0
   HasOneNumber callers view = (view.callers ≡ callers) × (view.next ≡ callers) × (view.ended ≡ [])

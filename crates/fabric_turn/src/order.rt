@@ -1,4 +1,4 @@
-//! The rule that the words, the slot and the seats keep, and what each step tells.
+//! The rule that the words, the slot and the seats keep, and what each step says of them.
 ghost use Rattle.fabric_turn.specs.Rule.{IsKept, first_view};
 ghost use Rattle.fabric_turn.specs.Plays.{Compares, Draws, Looks, PassesTurn};
 ghost use Rattle.fabric_turn.specs.Seats.{merged_view, new_view, remaining_view, spent_view};
@@ -9,12 +9,12 @@ use atomic_table::{Join, Play, Split, TableRule};
 use std::marker::PhantomData;
 use std::snapshot::Snapshot;
 
-/// What the table is told when it is made.
+/// What is given to the table when it is made.
 #[derive(Drop)]
 pub struct Opening<B> {
     /// The value as it was then.
     pub book: Snapshot<B>,
-    /// How many caller numbers there are.
+    /// The number of caller numbers.
     pub callers: u32,
 }
 
@@ -32,14 +32,14 @@ impl<B: Staged> TableRule<B, Views<B>, Opening<B>> for Order<B> {
     ghost first = { λ key. first_view key.callers (B.start key.book.value) };
 }
 
-/// A ticket is drawn.
+/// Draws a ticket.
 pub struct Draw;
 
 impl<S, E, D> Play<S, View<E, D>> for Draw {
     ghost then = { Draws };
 }
 
-/// The number that is served is looked at. At the caller's own the value is taken out.
+/// Looks at the number that is served. If it is the caller's own, takes the value out.
 pub struct Look<B> {
     of: PhantomData<B>,
 }
@@ -48,7 +48,7 @@ impl<B: Staged> Play<B, Views<B>> for Look<B> {
     ghost then = { Looks B.history B.start B.owner };
 }
 
-/// The value is given back and the turn passed on.
+/// Gives the value back and passes the turn on.
 pub struct Pass<B> {
     of: PhantomData<B>,
 }
@@ -57,7 +57,7 @@ impl<B: Staged> Play<B, Views<B>> for Pass<B> {
     ghost then = { PassesTurn B.history B.owner };
 }
 
-/// A new caller gets the next number.
+/// Gives the next number to a new caller.
 pub struct Fork;
 
 impl<E, D> Split<View<E, D>> for Fork {
@@ -66,7 +66,7 @@ impl<E, D> Split<View<E, D>> for Fork {
     ghost right = { new_view };
 }
 
-/// A caller's number is ended, and what it had seen is kept beside what the other had.
+/// Ends a caller's number, and keeps what it had seen next to what the other caller had seen.
 pub struct Merge;
 
 impl<E, D> Join<View<E, D>> for Merge {
@@ -75,7 +75,7 @@ impl<E, D> Join<View<E, D>> for Merge {
     ghost spent = { spent_view };
 }
 
-/// The two histories that a joined seat has seen are compared, and the longer is kept.
+/// Compares the two histories that a joined seat has seen, and keeps the longer.
 pub struct Compare<B> {
     of: PhantomData<B>,
 }

@@ -1,4 +1,5 @@
-//! A caller's side of a turnstile: its number and those that it may give. What it has seen stands in contracts alone.
+//! A caller's side of a turnstile: its number and those that it can give. What it has seen exists only in
+//! contracts.
 
 ghost use Rattle.std.specs.Prelude.{◌≡◌};
 ghost use Rattle.fabric_turn.specs.declared.view.View.{View};
@@ -9,11 +10,11 @@ use crate::order::Views;
 use crate::staged::Staged;
 use std::marker::Model;
 
-/// A caller's seat at a turnstile. Contracts see it as a pair: the name of its turnstile, which
-/// `turnstile_id` gives, and what the seat knows, a `View`.
+/// A caller's seat at a turnstile. Contracts see it as a pair: the name of its turnstile, which `turnstile_id`
+/// gives, and what the seat knows, a `View`.
 ///
-/// It may be moved to another thread. A seat that is dropped keeps its numbers, so that its
-/// turnstile can't be closed any more.
+/// A seat can be moved to another thread. A seat that is dropped keeps its numbers, so its turnstile can no longer
+/// be closed.
 #[derive(Drop)]
 pub struct Seat<B: Staged> {
     pub(crate) place: atomic_table::Seat<B, Views<B>>,

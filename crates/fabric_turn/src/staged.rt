@@ -1,12 +1,12 @@
-//! What a value has to promise so that callers can take turns at it.
+//! What a value must promise so that callers can take turns at it.
 
 ghost use Rattle.std.specs.Prelude.{◌≡◌, ℕ, List, ◌++◌};
 ghost use Rattle.fabric_turn.specs.History.{AppendsAtMostOne, NoneOf};
 
-/// A value that callers take turns at. It stands for a history: a list of entries, each of which
+/// A value that callers take turns at. It represents a history: a list of entries, each of which
 /// belongs to one caller. It need not store the list.
 pub trait Staged: Drop {
-    /// What a caller may ask of the value.
+    /// What a caller can ask of the value.
     type Ask;
 
     /// What the value replies.
@@ -15,28 +15,29 @@ pub trait Staged: Drop {
     /// One entry of the history.
     type Entry;
 
-    /// What the value was begun with.
+    /// What the value was started with.
     type Start;
 
-    /// What the value was begun with. No call of `act` changes it.
+    /// What the value was started with. No call of `act` changes it.
     ghost start: { Self → Self.Start };
 
-    /// The history that the value stands for.
+    /// The history that the value represents.
     ghost history: { Self → List Self.Entry };
 
-    /// The number of the caller to whom an entry belongs.
+    /// The number of the caller to which an entry belongs.
     ghost owner: { Self.Entry → ℕ };
 
-    /// Which asks may be made: of the start, the history, the caller's number and the ask.
+    /// Which asks are permitted, given the start, the history, the caller's number and the ask.
     ghost fit: { Self.Start → List Self.Entry → ℕ → Self.Ask → Type 0 };
 
-    /// What `act` promises of its reply: of the start, the history, the caller's number, the ask,
-    /// the reply and the history afterwards.
+    /// What `act` promises of its reply, given the start, the history, the caller's number, the
+    /// ask, the reply and the history afterwards.
     ghost answers: { Self.Start → List Self.Entry → ℕ → Self.Ask → Self.Reply → List Self.Entry → Type 0 };
 
-    /// Does what the caller asks. The ask has to be fit. At most one entry is appended to the
-    /// history, and it belongs to this caller; the start stays as it was. What the reply says, and
-    /// what it refuses, is in `answers`.
+    /// Does what the caller asks, and returns the reply, which `answers` describes.
+    ///
+    /// The caller must make an ask that is fit. At most one entry is appended to the history, and
+    /// it belongs to `caller`; the start does not change.
     fn act(&mut self, caller: u32, ask: Self::Ask) -> Self::Reply
         requires { fit (start self.old) (history self.old) caller ask }
         ensures start { start self.new ≡ start self.old }

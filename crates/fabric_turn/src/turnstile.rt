@@ -1,4 +1,4 @@
-//! The ticket lock. What is proved rests on its tickets; the mutex before them only spares callers a busy wait.
+//! The ticket lock. The proof depends only on its tickets; the mutex before them only spares callers a busy wait.
 
 ghost use Rattle.std.specs.Prelude.{◌≡◌, ℕ, ◌<◌, ◌≤◌, List, [], ◌∷◌, ◌++◌, IfOk};
 ghost use mathlib.Core.Option.{some};
@@ -11,8 +11,8 @@ ghost use Rattle.fabric_turn.specs.Seats.{HasAllNumbers, joined_view, new_view, 
 use crate::order::{Compare, Draw, Fork, Look, Merge, Opening, Order, Pass, Views};
 use crate::seat::Seat;
 use crate::staged::Staged;
-use an_base::memory::OutOfMemory;
 use atomic_table::{Refused, Table};
+use common_values::memory::OutOfMemory;
 use std::alloc::Global;
 use std::snapshot::Snapshot;
 use std::sync::{Mutex, Wait};
@@ -20,21 +20,20 @@ use std::thread::yield_now;
 
 type Place<B> = atomic_table::Seat<B, Views<B>>;
 
-// The word that has the number of tickets drawn.
+// The word that counts the tickets drawn.
 const TICKETS: usize = 0;
 
-// The word that has the number of turns passed on, which is the ticket that is served.
+// The word that counts the turns passed on; it is the ticket that is served.
 const SERVING: usize = 1;
 
-/// A value in a ticket lock. Callers share it by reference, and each call goes through a
-/// `Seat` of this turnstile.
+/// A value in a ticket lock. Callers share it by reference, and each call goes through a `Seat` of this turnstile.
 ///
-/// Two words count the tickets drawn and the turns passed on, both modulo 2^64, and a slot has the
-/// value while no caller has it out.
+/// Two words count the tickets drawn and the turns passed on, both modulo 2^64. A slot has the value while no
+/// caller has it out.
 #[derive(Drop)]
 pub struct Turnstile<B: Staged> {
     table: Table<B, Views<B>, Opening<B>, Order<B>, Global>,
-    // Who calls waits here for those before it, so that the ticket that it draws then is served at once.
+    // A caller waits here for those before it, so that the ticket that it then draws is served at once.
     queue: Mutex<()>,
     ghost sized: { (table.shared.table_id.words ≡ 2) × (table.shared.table_id.slots ≡ 1) },
 }
@@ -42,9 +41,13 @@ pub struct Turnstile<B: Staged> {
 impl<B: Staged> Turnstile<B> {
     ghost use Rattle.fabric_turn.specs.Names.{turnstile_id};
 
-    /// A turnstile round `book`, and its first seat. The seat has the caller number 0, may give the
-    /// numbers 1 to `callers - 1`, and has seen an empty history. `callers` is at least 1, and
-    /// `book` stands for the empty history. If memory runs out, `book` is dropped.
+    /// Creates a turnstile around `book`, and its first seat. The seat has the caller number 0, can give the
+    /// numbers 1 to `callers - 1`, and has seen an empty history.
+    ///
+    /// The caller must pass at least 1 as `callers`, and a `book` that represents the empty history.
+    ///
+    /// # Errors
+    /// `OutOfMemory` if an allocation fails. `book` is then dropped.
     pub fn new(alloc: Global, book: B, callers: u32) -> Result<(Turnstile<B>, Seat<B>), OutOfMemory>
         requires callers { 0 < callers }
         requires empty { B.history book ≡ [] }
@@ -104,15 +107,15 @@ impl<B: Staged> Turnstile<B> {
         shared.fetch_add::<Pass<B>>(place, SERVING, 1);
     }
 
-    /// Waits for the caller's turn, runs one ask on the value in it, and passes the turn on. The
-    /// seat is one of this turnstile, and the ask is fit for what the seat has seen.
+    /// Waits for the caller's turn, makes the ask `ask` of the value, passes the turn on and returns the reply.
     ///
-    /// Afterwards the seat has seen more: what it had seen before, then entries of other callers,
-    /// and then the call's own entry if it appended one. The reply is that of the value as it
-    /// stood just before that entry. The seat's `mine` gains the entry and is all that the history
-    /// so far has of this caller; the other parts of the seat stay as they were.
+    /// Afterwards the seat has seen more: what it had seen before, then entries of other callers, and then the
+    /// call's own entry if it appended one. The reply is the reply of the value as it was just before that entry.
+    /// The seat's `mine` gains the entry, and is all that the history so far has of this caller; the other parts of
+    /// the seat do not change.
     ///
-    /// It may wait for ever: nothing is promised of when the turn comes.
+    /// The caller must pass a seat of this turnstile, and an ask that is fit for what the seat has seen. The call
+    /// can wait for ever: we do not prove when the turn comes.
     pub fn call<R: Wait>(&self, rt: &R, seat: &mut Seat<B>, ask: B::Ask) -> B::Reply
         requires turnstile { seat.old.0 ≡ turnstile_id self.now }
         requires fit { IsFitFor B.fit seat.old.1 ask }
@@ -128,10 +131,11 @@ impl<B: Staged> Turnstile<B> {
         reply
     }
 
-    /// Makes a new caller. The first seat goes on as it was, with one number less to give. The
-    /// second has the lowest of the numbers that the given seat could give, has seen what that one
-    /// has, has no entries of its own and gives no numbers. The given seat is one of this turnstile,
-    /// and has a number to give.
+    /// Makes a new caller, and returns the given seat and the new one. The first seat continues as it was, with one
+    /// number less to give. The second has the lowest number that the given seat could give, has seen what that one
+    /// has, has no entries of its own and gives no numbers.
+    ///
+    /// The caller must pass a seat of this turnstile that has a number to give.
     pub fn split(&self, mut seat: Seat<B>) -> (Seat<B>, Seat<B>)
         requires turnstile { seat.0 ≡ turnstile_id self.now }
         requires more { seat.1.next < seat.1.callers }
@@ -152,10 +156,11 @@ impl<B: Staged> Turnstile<B> {
         (seat, other)
     }
 
-    /// Ends the caller of `other`, a seat of this turnstile as `seat` is. The first seat goes on,
-    /// with the numbers that it had and those that it could give. It has seen the longer of the two
-    /// histories, which goes on from both. The other's number is ended with its entries, as are
-    /// those that the other had ended and, with no entries, those that it had not given.
+    /// Ends the caller of `other`, and returns the first seat, with the numbers that it had and those that it could
+    /// give. It has seen the longer of the two histories, which extends both. The number of `other` is ended with
+    /// its entries, as are those that `other` had ended and, with no entries, those that it had not given.
+    ///
+    /// The caller must pass two seats of this turnstile.
     pub fn join(&self, mut seat: Seat<B>, other: Seat<B>) -> Seat<B>
         requires turnstile { seat.0 ≡ turnstile_id self.now }
         requires other_turnstile { other.0 ≡ turnstile_id self.now }
@@ -176,12 +181,13 @@ impl<B: Staged> Turnstile<B> {
         seat
     }
 
-    /// Gives the value back with the whole history, which is what the seat has seen. The seat is
-    /// one of this turnstile and has every caller number, as its own, as one that it could give, or
-    /// as one that a join ended: so all other seats were joined to it.
+    /// Returns the value with the whole history, which is what the seat has seen.
     ///
-    /// The history has exactly the entries of all callers: the seat's own are its `mine`, those of
-    /// each ended caller are what the seat has of that caller, and no other number has an entry.
+    /// The history has the entries of all callers and no other: the seat's own are its `mine`, those of each ended
+    /// caller are what the seat has of that caller, and no other number has an entry.
+    ///
+    /// The caller must pass a seat of this turnstile that has every caller number, as its own, as one that it could
+    /// give, or as one that a join ended. So all other seats must have been joined to it.
     pub fn close(self, seat: Seat<B>) -> B
         requires turnstile { seat.0 ≡ turnstile_id self }
         requires all { HasAllNumbers seat.1 }

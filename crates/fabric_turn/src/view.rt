@@ -1,14 +1,14 @@
-//! What a seat knows. Contracts alone speak of these types, and no value of them is made.
+//! What a seat knows. Only contracts use these types; the code creates no value of them.
 use std::collections::LinkedList;
 
-/// How far a seat is in a call. Between two calls it is `Idle`.
+/// The state of a seat within a call. Between two calls it is `Idle`.
 pub enum Stage {
-    /// It was joined into another seat, and is no more.
+    /// The seat was joined into another one, and no longer exists.
     Spent,
-    /// It has no ticket.
+    /// The seat has no ticket.
     Idle,
-    /// It has drawn this ticket. Tickets are counted from 0 and without bound, as the rule counts
-    /// them, and the words that callers share have them modulo 2^64.
+    /// The seat has drawn this ticket. The rule counts tickets from 0 without bound; the words that
+    /// callers share have them modulo 2^64.
     Waits(u64),
     /// The turn of this ticket has come, and the value is out with the seat.
     Serves(u64),
@@ -22,24 +22,26 @@ pub struct Ended<E> {
     pub mine: LinkedList<E>,
 }
 
-/// What a seat knows. `E` is the type of an entry and `D` that of what the value was begun with.
+/// What a seat knows. `E` is the type of an entry, and `D` the type of what the value was started
+/// with.
 pub struct View<E, D> {
-    /// How far it is in a call.
+    /// The state of the seat within a call.
     pub stage: Stage,
     /// The number of its caller, below `callers`.
     pub number: u32,
-    /// The numbers from `next` up to `callers` are its to give to new callers, the lowest first.
+    /// The seat can give the numbers from `next` up to `callers` to new callers, the lowest first.
     pub next: u32,
-    /// How many caller numbers there are in all. It is the same for all seats of a turnstile.
+    /// The number of caller numbers, the same for all seats of a turnstile.
     pub callers: u32,
-    /// What the value was begun with. It is `None` in a spent view alone.
+    /// What the value was started with. It is `None` only in a spent view.
     pub start: Option<D>,
     /// The longest beginning of the history that the seat has seen.
     pub seen: LinkedList<E>,
     /// The entries that its caller added, in their order.
     pub mine: LinkedList<E>,
-    /// The callers that were joined to it, and the numbers that these never gave, with no entries.
+    /// The callers that were joined to the seat, and the numbers that they never gave, with no
+    /// entries.
     pub ended: LinkedList<Ended<E>>,
-    /// What the seat that is being joined to it had seen. It is empty except within a join.
+    /// What the seat that is being joined to this one had seen. It is empty except within a join.
     pub heard: LinkedList<E>,
 }

@@ -9,7 +9,7 @@ use Rattle.std.proofs.lemmas.List.{take_more}
 use Rattle.std.proofs.lemmas.List.Elements.{All-contains, Contains-append_left, Contains-push, Contains-push_cases}
 use Rattle.std.proofs.lemmas.Nat.Bits.{bit_at_and, bit_at-zero, bit_at-lt, bit_at_set_same, bit_at_set_other, bit_at-trailing_zeros, same_from_bits}
 use Rattle.an_base.specs.Rows.{ArePorts, ExitsRise}
-use Rattle.an_base.proofs.RangeLemmas.{Contains-kept, in_range, kept_passes, kept_range}
+use Rattle.common_values.proofs.RangeLemmas.{Contains-kept, in_range, kept_passes, kept_range}
 use Rattle.fcfc_router.specs.Router.{CanGo, Gets, IsLowest}
 use Rattle.fcfc_router.specs.Shown.{ports_of}
 

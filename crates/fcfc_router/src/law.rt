@@ -1,4 +1,4 @@
-//! What holds of the grants of a router, whoever asks. No function here has code.
+//! Theorems about the grants of a router, for all requests. No function here has code.
 
 ghost use Rattle.std.specs.Prelude.{◌≡◌, ◌≢◌, ◌+◌, ◌≤◌, ℕ, List, [], ◌∷◌, ◌++◌, Option, Some};
 ghost use Rattle.fcfc_router.specs.declared.router.Grant.{Grant};
@@ -6,8 +6,8 @@ ghost use Rattle.fcfc_router.specs.Router.{RequestOf, CanGo, Gets, IsGranted};
 ghost use Rattle.fcfc_router.specs.Calls.{Call, Leads, WaitsSince, asked, granted, waits};
 ghost use Rattle.fcfc_router.specs.Calls.Call.{Ask, Grants};
 
-/// Nobody is passed over: if one asked, has not been granted since, and a packet that asked after it
-/// is granted, no port that the first one named is free at that call.
+/// States that no packet is overtaken: if a packet asked and has not been granted since, and a packet that
+/// asked after it is granted, then no port that the first packet named is free at that call.
 pub fn nobody_is_passed_over()
     ensures { (most free : ℕ) (before between : List Call) (request : RequestOf) (grant : Grant)
         (end : List RequestOf)
@@ -16,21 +16,21 @@ pub fn nobody_is_passed_over()
         → CanGo free request → ⊥ }
 {}
 
-/// A packet is granted as often as it asked, but for once if it still waits.
+/// States that a packet is granted as often as it asked, or once less if it still waits.
 pub fn granted_as_often_as_asked()
     ensures { (most packet : ℕ) (calls : List Call) (end : List RequestOf) → Leads most [] calls end
         → (asked packet calls ≡ granted packet calls + waits packet end) × (waits packet end ≤ 1) }
 {}
 
-/// Who is granted asked for it and was not granted since, and gets the lowest port that it named and that
-/// is free at that call.
+/// States that a packet that is granted asked and was not granted since, and that it gets the lowest port
+/// that it named and that is free at that call.
 pub fn granted_what_it_asked_for()
     ensures { (most free : ℕ) (calls : List Call) (grant : Grant) (end : List RequestOf)
         → Leads most [] (calls ++ (Grants free (Some grant) ∷ [])) end
         → (request : RequestOf) × WaitsSince calls request × Gets free request grant }
 {}
 
-/// A grant is fixed by the free ports and by who waits.
+/// States that a grant is determined by the free ports and the waiting requests.
 pub fn one_grant()
     ensures { (free : ℕ) (old new other : List RequestOf) (answer instead : Option Grant)
         → IsGranted free old new answer → IsGranted free old other instead

@@ -1,8 +1,9 @@
-//! The router of a switch: packets that wait ask for ports, and the oldest that could use a free one is
-//! let go by the lowest such port.
+//! autonet, tables: first-come first-considered crossbar scheduler.
 //!
-//! It stands on an_base. Its contract: over every list of calls, whoever is let go is the oldest that
-//! could use a port that was free at that call, and nobody is let go more often than it asked.
+//! Waiting packets request ports. The oldest packet that could use a free port is granted the lowest such port.
+//!
+//! It depends on `an_base`. Its contract: over every list of calls, each packet that is granted a port is the oldest
+//! that could use a port that was free at that call, and no packet is granted more often than it asked.
 #![tactic(auto)]
 
 pub mod law;

@@ -1,4 +1,4 @@
-//! Requests in the order of asking. A granted one leaves a gap; gaps are closed together, when places run short.
+//! Requests in the order of asking. A granted request leaves a gap; gaps are closed together, when slots run short.
 
 ghost use Rattle.std.specs.Prelude.{◌≡◌, ◌≢◌, ◌<◌, ◌≤◌, ◌/◌, ◌↔◌, [], ◌∷◌, ◌++◌, count_by, length};
 ghost use Rattle.std.specs.Prelude.{vec_capacity, IfOk, IsTrue};
@@ -8,11 +8,11 @@ ghost use Rattle.fcfc_router.specs.Calls.{MayAsk};
 ghost use Rattle.fcfc_router.specs.Shown.{HasSets, is_taken, ports_of, set_at, shown};
 
 use crate::tree::PortTree;
-use an_base::memory::OutOfMemory;
+use common_values::memory::OutOfMemory;
 use std::alloc::Global;
 use std::marker::Model;
 
-/// A packet that is let go, and the port by which it goes.
+/// A packet that is granted a port.
 #[derive(Clone, Copy, PartialEq, Eq)]
 pub struct Grant {
     /// The packet.
@@ -28,7 +28,7 @@ struct Slot {
     ports: u16,
 }
 
-/// The requests that wait at a switch, which contracts see as a list, oldest first.
+/// The requests that wait at a switch. Contracts see them as a list, oldest first.
 #[derive(Drop)]
 pub struct Router {
     // In the order of asking. The place of a request that was granted stays empty until the places end.
@@ -133,7 +133,12 @@ fn make_room(slots: &mut Vec<Slot>, tree: &mut PortTree)
 }
 
 impl Router {
-    /// A router at which nobody waits, with room for so many requests, 1 to 10,012.
+    /// Creates a router with no requests, and with space for `most` requests.
+    ///
+    /// The caller must pass a number from 1 to 10,012.
+    ///
+    /// # Errors
+    /// `OutOfMemory` if an allocation fails.
     pub fn new(alloc: Global, most: u32) -> Result<Self, OutOfMemory>
         requires least { 1 ≤ most }
         requires limit { most ≤ 10012 }
@@ -147,8 +152,10 @@ impl Router {
         })
     }
 
-    /// A packet that does not wait asks for one of these ports, 1 to 12 of 1 to 12, rising. It comes last.
-    /// It takes no memory.
+    /// Adds the request of `packet` for one of `ports`, after all others. It does not allocate.
+    ///
+    /// The caller must pass a packet that does not wait, and 1 to 12 ports, each from 1 to 12, in ascending
+    /// order; and the router must have space.
     pub fn ask(&mut self, packet: u32, ports: &[u8])
         requires { MayAsk self.old.most self.old.waiting (record { packet = packet; ports = ports.now }) }
         ensures { self.new ≡ record self.old {
@@ -158,7 +165,7 @@ impl Router {
         self.ask_set(packet, set_of(ports));
     }
 
-    /// The same for a set of ports: bit `p` says that port `p` is in it.
+    /// Does as `ask`, for a set of ports that has port `p` if and only if its bit `p` is set.
     pub fn ask_set(&mut self, packet: u32, ports: u16)
         requires { MayAsk self.old.most self.old.waiting
             (record { packet = packet; ports = ports_of ports }) }
@@ -175,9 +182,10 @@ impl Router {
         }
     }
 
-    /// The oldest request that names a free port, with the lowest free port that it names: bit `p` of
-    /// `free` says that port `p` is free. That request goes. None exactly if no request names a free
-    /// port, and then nothing changes. It takes no memory.
+    /// Removes the oldest request that names a free port, and grants it the lowest free port that it names.
+    ///
+    /// Port `p` is free if and only if bit `p` of `free` is set. Returns `None`, and changes nothing, if and
+    /// only if no request names a free port. It does not allocate.
     pub fn grant(&mut self, free: u16) -> Option<Grant>
         ensures granted { IsGranted free self.old.waiting self.new.waiting result }
         ensures most { self.new.most ≡ self.old.most }

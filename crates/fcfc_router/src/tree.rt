@@ -1,18 +1,19 @@
-//! How the first of many requests that names a free port is found, without looking at those before it.
+//! Finds the first of many requests that names a free port, without visiting the requests before it.
 
 ghost use Rattle.std.specs.Prelude.{◌≡◌, ◌<◌, ◌≤◌, ◌+◌, ◌*◌, ◌++◌, ◌^◌, ℕ, drop, length, replicate};
 ghost use Rattle.std.specs.Prelude.{slice_index, slice_set, vec_capacity, All, IfOk, IsTrue, MatchOption};
 ghost use Rattle.std.specs.Int.{IsPowerOfTwo};
 ghost use Rattle.fcfc_router.specs.Tree.{HasNone, IsFirst, IsHalf, IsTree};
 
-use an_base::memory::OutOfMemory;
+use common_values::memory::OutOfMemory;
 use std::alloc::Global;
 use std::marker::Model;
 
-/// A set of ports at each of so many places, a power of two. Over each half, quarter and so on of the
-/// places stands the union of its sets, so that the first place with one of some ports is found in as
-/// many steps as there are halvings. Only as many places are kept as were needed; those after them
-/// have no port. Contracts see it as the list of all sets.
+/// A list of sets of ports, whose length is a power of two. Contracts see it as the list of all sets.
+///
+/// It keeps the union of the sets in each half, quarter and so on of the list, so that the first set with
+/// one of some ports is found in logarithmic time. It keeps only as many sets as were needed; the sets after
+/// them are empty.
 #[derive(Drop)]
 pub struct PortTree {
     // The union of the kept places at 1, those of the two halves at 2 and 3, and so on; the sets last.
@@ -101,7 +102,10 @@ fn double(unions: &mut Vec<u16>, kept: usize)
 }
 
 impl PortTree {
-    /// So many places, a power of two up to 2^15, each with no port.
+    /// Creates a list of `places` empty sets. The caller must pass a power of two up to 2^15.
+    ///
+    /// # Errors
+    /// `OutOfMemory` if the allocation fails.
     pub fn new(alloc: Global, places: usize) -> Result<Self, OutOfMemory>
         requires power { IsPowerOfTwo places }
         requires most { places ≤ 2 ^ 15 }
@@ -117,7 +121,7 @@ impl PortTree {
         })
     }
 
-    /// How many places there are.
+    /// Returns the number of sets.
     pub fn places(&self) -> usize
         ensures count { result ≡ length self.now }
         ensures most { result ≤ 2 ^ 15 }
@@ -125,7 +129,7 @@ impl PortTree {
         self.places
     }
 
-    /// How many places are kept: after them none has a port.
+    /// Returns the number of sets that are kept. All sets after them are empty.
     pub fn kept(&self) -> usize
         ensures within { result ≤ length self.now }
         ensures behind { (place : ℕ) → result ≤ place → slice_index self.now place ≡ 0 }
@@ -133,14 +137,14 @@ impl PortTree {
         self.kept
     }
 
-    /// Whether no place has a port.
+    /// Reports whether all sets are known to be empty. If it returns `true`, they are.
     pub fn is_empty(&self) -> bool
         ensures { IsTrue result → All (λ set. set ≡ 0) self.now }
     {
         self.unions[1] == 0
     }
 
-    /// Writes the set of a place. It takes no memory.
+    /// Writes `set` at index `place`, which must be below the number of sets. It does not allocate.
     pub fn put(&mut self, place: usize, set: u16)
         requires { place < length self.old }
         ensures { self.new ≡ slice_set self.old place set }
@@ -155,7 +159,7 @@ impl PortTree {
         write(&mut self.unions, self.kept, place, set);
     }
 
-    /// The first place whose set has one of these ports; none exactly if no set has.
+    /// Returns the index of the first set with one of `ports`, or `None` if and only if no set has one.
     pub fn first(&self, ports: u16) -> Option<usize>
         ensures { MatchOption result (HasNone ports self.now) (IsFirst ports self.now) }
     {

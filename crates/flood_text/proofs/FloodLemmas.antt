@@ -8,15 +8,15 @@ use Rattle.std.proofs.lemmas.Grind.{flat_map-append}
 use Rattle.an_base.specs.Values.{LifeId, EntryOf}
 use Rattle.net_graph.specs.Wires.{Wires, IsWired}
 use Rattle.net_graph.specs.Forest.{IsForest}
-use Rattle.text_lines.specs.Lines.{line_text}
-use Rattle.text_lines.proofs.FormTexts.{text_push, go_on}
+use Rattle.common_lines.specs.Lines.{line_text}
+use Rattle.common_lines.proofs.FormTexts.{text_push, go_on}
 use Rattle.net_script.specs.Scripts.{ScriptOf}
 use Rattle.topo_graph.specs.Topology.{entry_at, life_at, nothing, IsTree}
 use Rattle.broadcast_flood.specs.Floods.{IsBroadcast}
 use Rattle.broadcast_flood.specs.declared.hop.FloodHop.{FloodHop}
 use Rattle.flood_text.specs.Floods.{FloodLine, From, Goes, Copies, Last, line_words, flood_lines, member_lines, AreFloods, FloodPart, part_lines, lines_told, flood_text}
 use Rattle.row_text.proofs.ComponentTree.{component_tree}
-use Rattle.an_base.proofs.ListLemmas.{zip_push}
+use Rattle.common_values.proofs.ListLemmas.{zip_push}
 
 -- the components of a forest are trees
 pub forest_trees : (wires : Wires) (forest : List (List EntryOf)) → IsWired wires → IsForest wires forest → All IsTree forest

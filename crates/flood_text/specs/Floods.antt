@@ -3,23 +3,23 @@ use Rattle.std.specs.Fmt.{decimal}
 use Rattle.std.specs.List.{flat_map, zip}
 use Rattle.an_base.specs.Values.{LifeId, EntryOf}
 use Rattle.net_graph.specs.Forest.{IsForest}
-use Rattle.text_lines.specs.Lines.{forms_text_by}
+use Rattle.common_lines.specs.Lines.{forms_text_by}
 use Rattle.net_script.specs.Scripts.{ScriptOf}
 use Rattle.topo_graph.specs.Topology.{life_at}
 use Rattle.broadcast_flood.specs.Floods.{HopOf, IsFlood, IsBroadcast, copies, hop_at}
 use Rattle.broadcast_flood.specs.declared.hop.FloodHop.{FloodHop}
 use Rattle.row_text.specs.Names.{life_text}
 
--- The text of `flood`: how a broadcast from each switch goes.
+-- The text of `flood`: the path of the broadcast from each switch.
 
--- a line: who sends a broadcast, one of its hops, how many members get a copy, or the end
+-- a line: the sender of a broadcast, one of its hops, the number of members that get a copy, or the end
 pub data FloodLine : Type 0 where
   From : (life : LifeId) → FloodLine
   Goes : (hop : FloodHop) → FloodLine
   Copies : (members : ℕ) → FloodLine
   Last : FloodLine
 
--- its words
+-- the words of a line
 abbrev pub line_words : ScriptOf → FloodLine → List (List ℕ)
 line_words script (From life) = codes "flood" ∷ life_text script life ∷ []
 line_words script (Goes hop) =
@@ -27,11 +27,11 @@ line_words script (Goes hop) =
 line_words script (Copies members) = codes "copies" ∷ decimal members ∷ []
 line_words script Last = codes "end" ∷ []
 
--- the lines of a broadcast from the entry of a life
+-- the lines of the broadcast from life `from` in a component of `members` members
 abbrev pub flood_lines : ℕ → LifeId → List FloodHop → List FloodLine
 flood_lines members from hops = From from ∷ (map Goes hops ++ Copies members ∷ [])
 
--- the broadcasts from the first members of a component
+-- `floods` are the broadcasts from the members at indices below `end`
 pub record AreFloods (entries : List EntryOf) (end : ℕ) (floods : List (List FloodHop)) : Type 0 where
   pub count : length floods ≡ end
   pub each :
@@ -42,7 +42,7 @@ pub record FloodPart : Type 0 where
   pub entries : List EntryOf
   pub floods : List (List FloodHop)
 
--- the lines of the broadcasts from members, by rising life
+-- the lines of the broadcasts from the members, in ascending order of life
 abbrev pub member_lines : ℕ → List EntryOf → List (List FloodHop) → List FloodLine
 member_lines members entries floods =
     flat_map (λ flood. flood_lines members flood.0.life flood.1) (zip entries floods)
@@ -55,18 +55,18 @@ part_lines part = member_lines (length part.entries) part.entries part.floods
 abbrev pub lines_told : ScriptOf → List FloodLine → List ℕ
 lines_told script = forms_text_by (line_words script)
 
--- the lines of the components, and `end`
+-- the text of the lines of all components, and of `end`
 unfoldable pub flood_text : ScriptOf → List FloodPart → List ℕ
 flood_text script parts = lines_told script (flat_map part_lines parts ++ Last ∷ [])
 
--- what is told of the broadcasts of the script's network with all links up
+-- `text` says how broadcasts spread in the script's network with all links up
 pub record IsFloodOf (script : ScriptOf) (text : List ℕ) : Type 0 where
   pub parts : List FloodPart
   pub trees : IsForest script.wires (map (λ part. part.entries) parts)
   pub floods : All (λ part. AreFloods part.entries (length part.entries) part.floods) parts
   pub text_is : text ≡ flood_text script parts
 
--- hops of a broadcast from the member at a place that bring each member one copy
+-- `hops` are a broadcast from the member at index `from`, and bring each member one copy
 pub record ReachesAll (entries : List EntryOf) (from : ℕ) (hops : List FloodHop) : Type 0 where
   pub ups : List HopOf
   pub downs : List HopOf

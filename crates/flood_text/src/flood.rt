@@ -1,9 +1,9 @@
-//! How broadcasts go in a script's network.
+//! Prints the broadcasts in a script's network.
 
 ghost use Rattle.std.specs.Prelude.{◌≡◌, ◌++◌, ◌∷◌, List, [], All, codes, length, map, IfOk, OnOk};
 ghost use Rattle.std.specs.Fmt.{decimal};
 ghost use Rattle.an_base.specs.Values.{EntryOf};
-ghost use Rattle.text_lines.specs.Lines.{line_text};
+ghost use Rattle.common_lines.specs.Lines.{line_text};
 ghost use Rattle.topo_graph.specs.Topology.{IsTree};
 ghost use Rattle.broadcast_flood.specs.declared.hop.FloodHop.{FloodHop as FloodHopOf};
 ghost use Rattle.flood_text.specs.Floods.{AreFloods, flood_lines, flood_text, FloodPart, From, Goes};
@@ -11,15 +11,15 @@ ghost use Rattle.flood_text.specs.Floods.{IsFloodOf, line_words, lines_told, par
 
 use an_base::entry::Entries;
 use an_base::life::Life;
-use an_base::memory::OutOfMemory;
 use broadcast_flood::flood::Flood;
 use broadcast_flood::hop::FloodHop;
+use common_lines::spelling::push_line;
+use common_values::memory::OutOfMemory;
 use itoa::Buffer;
 use net_graph::forest::trees;
 use net_script::script::Script;
 use row_text::piece::Lives;
 use std::alloc::Global;
-use text_lines::spelling::push_line;
 use topo_graph::graph::Graph;
 
 // Appends the line of a hop.
@@ -47,7 +47,7 @@ fn push_hops(lives: &Lives, text: &mut Vec<u8>, hops: &[FloodHop]) -> Result<(),
     Ok(())
 }
 
-// Appends the line of who sends a broadcast.
+// Appends the line of the sender of a broadcast.
 fn push_from(lives: &Lives, text: &mut Vec<u8>, life: Life) -> Result<(), OutOfMemory>
     ensures { OnOk result (text.new.items
         ≡ text.old.items ++ line_text (line_words lives.now.script.now (From life))) }
@@ -56,7 +56,7 @@ fn push_from(lives: &Lives, text: &mut Vec<u8>, life: Life) -> Result<(), OutOfM
     push_line(text, &[b"flood", &name])
 }
 
-// Appends the line that says how many members get a copy.
+// Appends the line of the number of members that get a copy.
 fn push_copies(text: &mut Vec<u8>, members: usize) -> Result<(), OutOfMemory>
     ensures { OnOk result (text.new.items ≡ text.old.items
         ++ line_text (codes "copies" ∷ decimal members ∷ [])) }
@@ -81,7 +81,7 @@ fn push_flood(
     push_copies(text, members)
 }
 
-// Appends the lines of the broadcasts from the members of a component, which go so.
+// Appends the lines of the broadcasts from the members of a component, where `flood` is made for it.
 fn push_broadcasts(
     lives: &Lives,
     text: &mut Vec<u8>,
@@ -102,7 +102,7 @@ fn push_broadcasts(
     Ok(())
 }
 
-// The same, where it is found how they go.
+// Appends the lines of the broadcasts from the members of a component.
 fn push_floods(lives: &Lives, text: &mut Vec<u8>, component: &Entries) -> Result<(), OutOfMemory>
     requires { IsTree component.now }
     ensures { OnOk result ((floods : List (List FloodHopOf))
@@ -131,9 +131,14 @@ fn text_of(lives: &Lives, forest: &[Entries]) -> Result<Vec<u8>, OutOfMemory>
     Ok(text)
 }
 
-/// How broadcasts go in the script's network with all links up: for each component, by rising root,
-/// and each member, by rising life, who sends, the hops of its broadcast, and how many members get a
-/// copy; last `end`. Each line ends in a line feed.
+/// Returns the paths of broadcasts in the script's network, with all links up.
+///
+/// For each component, in ascending order of root, and each member, in ascending order of life, the
+/// lines are: the sender, the hops of its broadcast, and the number of members that get a copy. The last
+/// line is `end`. Each line ends in a line feed.
+///
+/// # Errors
+/// `OutOfMemory` if an allocation fails.
 pub fn flood(alloc: Global, script: &Script) -> Result<Vec<u8>, OutOfMemory>
     ensures { IfOk result (λ text. IsFloodOf script.now text.items) }
 {

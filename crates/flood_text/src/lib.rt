@@ -1,9 +1,9 @@
-//! The text of `flood`: how broadcasts go in a script's network.
+//! autonet, table texts: output of `flood`.
 //!
-//! It stands on the broadcasts of a component.
+//! It prints the path of the broadcast from each switch of a script's network.
 //!
-//! Its contract: the text has the hops of the broadcast from each member, in which each member gets one copy; and a
-//! script has one such text.
+//! It depends on the broadcasts of a component. Its contract: the text has the hops of the broadcast from each
+//! member, in which each member gets one copy; and a script has only one such text.
 #![tactic(auto)]
 
 pub mod flood;

@@ -13,7 +13,7 @@ use Rattle.dep_check.proofs.SpotLemmas.{one_spot, place_low}
 use Rattle.fcfc_router.specs.Router.{RequestOf}
 use Rattle.fcfc_router.specs.Shown.{ports_of, RouterOf}
 use Rattle.an_base.specs.Rows.{ArePorts, ExitsRise}
-use Rattle.an_base.proofs.RangeLemmas.{range_rises}
+use Rattle.common_values.proofs.RangeLemmas.{range_rises}
 use Rattle.fcfc_router.specs.Calls.{MayAsk}
 use Rattle.flow_channels.specs.declared.board.Board.{Board}
 use Rattle.flow_channels.specs.declared.board.Packet.{Packet}

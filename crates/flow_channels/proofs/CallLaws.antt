@@ -6,7 +6,7 @@ use Rattle.std.proofs.lemmas.Bool.Decides.{nat_tests}
 use Rattle.std.proofs.lemmas.Option.{same_Some}
 use Rattle.std.proofs.lemmas.List.Elements.{All-push}
 use Rattle.dep_check.specs.Channels.{IsChannel, LeadsTo}
-use Rattle.channel_graph.specs.Cycles.{AreRanks}
+use Rattle.common_graph.specs.Cycles.{AreRanks}
 use Rattle.dep_check.specs.Tables.{rank_at}
 use Rattle.flow_channels.specs.declared.went.Went.{Went}
 use Rattle.flow_channels.specs.declared.went.Went.TheVariants.{Arrived, Out}

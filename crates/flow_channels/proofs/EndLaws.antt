@@ -3,7 +3,7 @@ use Rattle.std.proofs.Common.{◌≡◌, ◌∙◌, ap, subst, sym, ℕ, zero, s
 use Rattle.std.specs.Prelude.{unwrap_or, slice_get}
 use Rattle.dep_check.specs.declared.channel.Channel.{Channel}
 use Rattle.dep_check.specs.Channels.{IsChannel, LeadsTo}
-use Rattle.channel_graph.specs.Cycles.{AreRanks}
+use Rattle.common_graph.specs.Cycles.{AreRanks}
 use Rattle.dep_check.specs.Tables.{IsSpot, place_of, rank_at}
 use Rattle.dep_check.proofs.SpotLemmas.{spot_true}
 use Rattle.flow_channels.specs.declared.went.Went.{Went}

@@ -7,7 +7,7 @@ use Rattle.std.proofs.lemmas.List.{get_or_default}
 use Rattle.std.proofs.lemmas.Option.{same_Some}
 use Rattle.std.proofs.lemmas.List.Folds.{Any-from_list_any, list_any-from_Any}
 use Rattle.an_base.specs.Rows.{RowOf}
-use Rattle.an_base.proofs.RangeLemmas.{Contains-kept, in_range, kept_passes}
+use Rattle.common_values.proofs.RangeLemmas.{Contains-kept, in_range, kept_passes}
 use Rattle.dep_check.specs.declared.channel.Channel.{Channel}
 use Rattle.dep_check.specs.Channels.{HasExit}
 use Rattle.dep_check.specs.Packets.{AllAreJoined, IsGap}

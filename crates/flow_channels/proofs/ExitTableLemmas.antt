@@ -12,8 +12,8 @@ use Rattle.std.proofs.lemmas.Nat.Bits.{bit_at-zero}
 use Rattle.an_base.specs.Numbers.{AreNumbers}
 use Rattle.an_base.specs.Rows.{ArePorts, RowOf}
 use Rattle.an_base.specs.Values.{EntryOf}
-use Rattle.an_base.proofs.ListLemmas.{Any-front}
-use Rattle.an_base.proofs.RangeLemmas.{kept_member, kept_range, range_rises, within_range}
+use Rattle.common_values.proofs.ListLemmas.{Any-front}
+use Rattle.common_values.proofs.RangeLemmas.{kept_member, kept_range, range_rises, within_range}
 use Rattle.topo_graph.specs.Topology.{IsGraph, far_of}
 use Rattle.table_build.specs.declared.way.Way.{Way}
 use Rattle.table_build.specs.Exits.{Begins, IsEntry, may_go_up}

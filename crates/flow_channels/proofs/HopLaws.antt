@@ -8,7 +8,7 @@ use Rattle.std.proofs.lemmas.Option.{same_Some}
 use Rattle.std.proofs.lemmas.List.Elements.{All-push, All-drop, All-cons, All-nil, All-head}
 use Rattle.dep_check.specs.declared.channel.Channel.{Channel}
 use Rattle.dep_check.specs.Channels.{IsChannel, LeadsTo}
-use Rattle.channel_graph.specs.Cycles.{AreRanks}
+use Rattle.common_graph.specs.Cycles.{AreRanks}
 use Rattle.dep_check.specs.Tables.{IsSpot, place_of, rank_at}
 use Rattle.dep_check.proofs.SpotLemmas.{option_cases}
 use Rattle.flow_channels.specs.declared.went.Went.{Went}

@@ -7,10 +7,10 @@ use Rattle.std.specs.List.{list_any, range_with_len}
 use Rattle.std.proofs.lemmas.Bool.{cases_lt, eq-eqb, eqb-true, and_parts}
 use Rattle.std.proofs.lemmas.List.Folds.{Any-from_list_any, list_any-from_Any}
 use Rattle.std.proofs.lemmas.List.FromFn.{get_or-map-range_with_len}
-use Rattle.an_base.proofs.PigeonLemmas.{pigeons}
+use Rattle.common_values.proofs.PigeonLemmas.{pigeons}
 use Rattle.dep_check.specs.declared.channel.Channel.{Channel}
 use Rattle.dep_check.specs.Channels.{IsChannel, LeadsTo}
-use Rattle.channel_graph.specs.Cycles.{HasNoCycle, Path, Walk}
+use Rattle.common_graph.specs.Cycles.{HasNoCycle, Path, Walk}
 use Rattle.dep_check.specs.Tables.{IsSpot, place_of, rank_at}
 use Rattle.dep_check.proofs.SpotLemmas.{one_spot, option_cases, place_low, spot_cases, spot_true}
 use Rattle.flow_channels.specs.Layout.{HasRanks, IsWired, LayoutOf, has_exit, spot}

@@ -9,7 +9,7 @@ use Rattle.std.proofs.lemmas.List.{length-replicate}
 use Rattle.std.proofs.lemmas.List.Elements.{All-push, All-drop, All-head, All-weaker, All-nil, Contains-append_left, Contains-append_right}
 use Rattle.std.proofs.lemmas.List.Quantifiers.{all_pairs_push, all_pairs_remove}
 use Rattle.dep_check.specs.declared.channel.Channel.{Channel}
-use Rattle.channel_graph.specs.Cycles.{Walk}
+use Rattle.common_graph.specs.Cycles.{Walk}
 use Rattle.dep_check.specs.Packets.{GoesOn}
 use Rattle.dep_check.specs.Tables.{IsSpot, place_of}
 use Rattle.dep_check.proofs.SpotLemmas.{option_cases}

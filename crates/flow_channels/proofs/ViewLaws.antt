@@ -9,7 +9,7 @@ use Rattle.an_base.specs.Rows.{RowOf}
 use Rattle.an_base.specs.Numbers.{AreNumbers}
 use Rattle.topo_graph.specs.Topology.{IsGraph}
 use Rattle.dep_check.specs.Channels.{far_at, LeadsTo}
-use Rattle.channel_graph.specs.Cycles.{HasNoCycle}
+use Rattle.common_graph.specs.Cycles.{HasNoCycle}
 use Rattle.dep_check.specs.Packets.{AllAreJoined}
 use Rattle.dep_check.specs.Tables.{place_of}
 use Rattle.flow_channels.specs.declared.board.Board.{Board}

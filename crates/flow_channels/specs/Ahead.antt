@@ -5,14 +5,14 @@ use Rattle.flow_channels.specs.declared.board.Ahead.{Ahead}
 use Rattle.flow_channels.specs.declared.board.Ahead.TheVariants.{Rests, Arrives, Asks}
 use Rattle.flow_channels.specs.Flows.{PacketOf}
 
--- if there are a far side and a first packet: this arrives if the far side is its target, else it asks
--- there
+-- what the first packet does, if there are a far side and a first packet: it arrives if the far side is its target,
+-- otherwise it asks there
 abbrev pub ahead_of : Option Channel → Option PacketOf → Ahead
 ahead_of None first = Rests
 ahead_of (Some end) None = Rests
 ahead_of (Some end) (Some packet) = if end.at == packet.to then Arrives else Asks end
 
--- the far side, if it asks there
+-- the far side, if the packet asks there
 abbrev pub asks_of : Ahead → Option Channel
 asks_of Rests = None
 asks_of Arrives = None

@@ -1,4 +1,4 @@
--- The exits of rows, as a table keeps them.
+-- The exits of rows in a table.
 use Rattle.std.specs.Prelude.{◌≡◌, ◌<◌, ◌↔◌, ℕ, List, Bool, All, length, slice_index}
 use Rattle.std.specs.Int.{bit_at}
 use Rattle.an_base.specs.Rows.{ArePorts, RowOf}
@@ -9,20 +9,20 @@ use Rattle.dep_check.specs.Channels.{HasExit}
 use Rattle.dep_check.specs.Tables.{IsSpot}
 use Rattle.flow_channels.specs.Board.{exit_set}
 
--- the ports of each set are the exits of the rows
+-- the ports of each of `sets` are the exits of `rows`
 abbrev pub AreSets : List RowOf → List ℕ → Type 0
 AreSets rows sets = (came : Channel) (to port : ℕ) → IsSpot came → to < 127
     → ((bit_at (exit_set sets came to) port ≡ 1) ↔ HasExit rows came.at came.port to port)
 
--- and they are ports
+-- the ports of each of `sets` are the exits of `rows`, which are all valid ports
 pub record AreExitsOf (rows : List RowOf) (sets : List ℕ) : Type 0 where
   pub each : AreSets rows sets
   pub ports : All (λ row. ArePorts row.exits) rows
 
--- What private functions alone cite: the same by members.
+-- Only private functions cite the definitions that follow, which give the exits by members.
 
--- a member has an exit for what came in at a spot and goes to a number: the spot is an entry of it, the
--- number that of another member, and the exit begins a way there
+-- the member at index `place` has the exit `port` for packets that arrive at `came` and go to `to`: `came` is one of
+-- its ingress ports, `to` is the number of another member, and the exit begins a path there
 pub record LeadsOut (entries : List EntryOf) (numbers : List ℕ) (any : Bool) (place : ℕ) (came : Channel)
     (to port : ℕ)
     : Type 0 where
@@ -33,7 +33,7 @@ pub record LeadsOut (entries : List EntryOf) (numbers : List ℕ) (any : Bool) (
   pub number : to ≡ slice_index numbers target
   pub begins : Begins entries any (may_go_up entries place came.port) place target port
 
--- the sets have the exits of the members below an end
+-- `sets` have the exits of the members below `end`
 abbrev pub AreSetsBelow : List EntryOf → List ℕ → Bool → ℕ → List ℕ → Type 0
 AreSetsBelow entries numbers any end sets = (came : Channel) (to port : ℕ) → IsSpot came → to < 127
     → ((bit_at (exit_set sets came to) port ≡ 1)

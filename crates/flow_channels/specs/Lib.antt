@@ -1,4 +1,4 @@
--- what public contracts cite
+-- definitions that public contracts cite
 pub mod Layout
 pub mod Flows
 pub mod Moves
@@ -6,7 +6,7 @@ pub mod Runs
 pub mod Sound
 pub mod Exits
 pub mod View
--- what private functions cite
+-- definitions that only private functions cite
 pub mod Queue
 pub mod Board
 pub mod Sets

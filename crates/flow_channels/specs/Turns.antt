@@ -1,4 +1,4 @@
--- What arrives or is let go next, as the program finds it.
+-- The packet that arrives or leaves next, as the program finds it.
 use Rattle.std.specs.Prelude.{◌≡◌, ◌<◌, ◌↔◌, ℕ, [], Some, slice_index_or, slice_set}
 use Rattle.std.specs.Int.{bit_at}
 use Rattle.dep_check.specs.declared.channel.Channel.{Channel}
@@ -15,39 +15,39 @@ use Rattle.flow_channels.specs.Flows.{first_of}
 use Rattle.flow_channels.specs.Layout.{spot}
 use Rattle.flow_channels.specs.Moves.{CanArrive, HasRoom}
 
--- the first packet of a channel is at its target
+-- `packet` is the first packet of `channel`, and is at its target
 abbrev pub IsAtTarget : Tables → Board → Channel → Packet → Type 0
 IsAtTarget tables board channel packet =
     (entry : ℕ) × (first_of (flow_of board) channel ≡ Some (packet_of packet))
     × ((ways tables).far channel ≡ Some (spot packet.to entry))
 
--- no first packet of the first channels, by place, is at its target
+-- no first packet of the channels before the index `end` is at its target
 abbrev pub NoneArrives : Tables → Board → ℕ → Type 0
 NoneArrives tables board end =
     (channel : Channel) → IsSpot channel → place_of channel < end
     → CanArrive (ways tables) (flow_of board) channel → ⊥
 
--- the first channel of which the first packet is at its target
+-- `arrival` is the first channel whose first packet is at its target
 pub record IsFirstArrival (tables : Tables) (board : Board) (arrival : Arrival) : Type 0 where
   pub channel_is : IsSpot arrival.channel
   pub arrives : IsAtTarget tables board arrival.channel arrival.packet
   pub before : NoneArrives tables board (place_of arrival.channel)
 
--- the router of a number
+-- the router of the switch `at`
 abbrev pub router_at : Board → ℕ → RouterOf
 router_at board at = slice_index_or board.routers.items at (record { most = 0; waiting = [] })
 
--- the set has the ports of a switch whose channels have room
+-- the set `free` has the ports of the switch `at` whose channels have free space
 abbrev pub AreFree : Tables → Board → ℕ → ℕ → Type 0
 AreFree tables board at free =
     (port : ℕ) → ((bit_at free port ≡ 1) ↔ HasRoom (ways tables) (flow_of board) (spot at port))
 
--- nobody can go at a switch
+-- no packet can leave at the switch `at`
 abbrev pub NoneGoesAt : Tables → Board → ℕ → Type 0
 NoneGoesAt tables board at =
     (free : ℕ) × AreFree tables board at free × NoneCanGo free (router_at board at).waiting
 
--- at the switches of lower numbers than this
+-- no packet can leave at the switches below `end`
 abbrev pub NoneGoes : Tables → Board → ℕ → Type 0
 NoneGoes tables board end = (at : ℕ) → at < end → NoneGoesAt tables board at
 
@@ -58,7 +58,7 @@ pub record IsSame (old new : Board) : Type 0 where
   pub queues : new.queues.items ≡ old.queues.items
   pub routers : new.routers.items ≡ old.routers.items
 
--- the router of the first switch at which somebody can go has let go
+-- the router of the first switch where a packet can leave has granted a port to the packet of `departure`
 pub record HasDeparted (tables : Tables) (old new : Board) (departure : Departure) : Type 0 where
   pub at : departure.at < 127
   pub before : NoneGoes tables old departure.at

@@ -1,4 +1,4 @@
--- A flow as callers see it.
+-- How callers see a flow.
 use Rattle.std.specs.Prelude.{◌≡◌, ◌≤◌, ℕ, List, [], Option, Some, None, length, map}
 use Rattle.dep_check.specs.declared.channel.Channel.{Channel}
 use Rattle.flow_channels.specs.declared.board.Board.{Board}
@@ -11,8 +11,8 @@ use Rattle.flow_channels.specs.Moves.{IsPossible, IsTurn, Move}
 use Rattle.flow_channels.specs.Runs.{MayEnter}
 use Rattle.flow_channels.specs.Sound.{IsSound}
 
--- the far side of each spot and the exits as the flow keeps them, how many packets a channel holds, how
--- many may enter, those that entered, in order, and where they are
+-- the far side of each spot and the exits as the flow keeps them, the number of packets that a channel holds, the
+-- number that may enter, the packets that entered, in order, and where they are
 pub record FlowView : Type 0 where
   pub wires : List (Option Channel)
   pub sets : List ℕ
@@ -31,7 +31,7 @@ view_of tables board = record {
   flow = flow_of board;
 }
 
--- It is a flow over a layout whose rows join all and have ranks, and is sound there.
+-- `view` is a sound flow over `layout`, whose rows join all switches and have ranks.
 pub record IsOver (layout : LayoutOf) (view : FlowView) : Type 0 where
   pub tables_are : AreTablesOf layout view.wires view.sets view.room
   pub wired : IsWired layout
@@ -40,26 +40,26 @@ pub record IsOver (layout : LayoutOf) (view : FlowView) : Type 0 where
   pub ranked : HasRanks layout ranks
   pub sound : IsSound layout view.known view.flow
 
--- no packet entered yet
+-- no packet has entered `view`, which is over `layout`
 pub record IsFresh (layout : LayoutOf) (most : ℕ) (view : FlowView) : Type 0 where
   pub over : IsOver layout view
   pub limit_is : view.limit ≡ most
   pub known_is : view.known ≡ []
   pub flow_is : view.flow ≡ empty_flow
 
--- a packet may enter now
+-- `packet` may enter now, from `from` to `to`
 pub record MayEnterNow (view : FlowView) (packet from to : ℕ) : Type 0 where
   pub layout : LayoutOf
   pub over : IsOver layout view
   pub may : MayEnter layout view.limit view.known packet from to
 
--- what a turn makes of it: the next move, or nothing
+-- a turn leads from `old` to `new`: it makes the next move, or nothing changes
 abbrev pub TurnsTo : LayoutOf → FlowView → FlowView → Option Went → Type 0
 TurnsTo layout old new None = new ≡ old
 TurnsTo layout old new (Some went) =
     IsTurn layout old.flow went new.flow × (new ≡ record old { flow = new.flow })
 
--- what the program keeps of a flow
+-- the invariant of a flow in the program
 pub record IsRunning (tables : Tables) (board : Board) : Type 0 where
   pub kept : IsKept tables board
   pub least : 1 ≤ tables.limit
@@ -67,13 +67,13 @@ pub record IsRunning (tables : Tables) (board : Board) : Type 0 where
   pub layout : LayoutOf
   pub over : IsOver layout (view_of tables board)
 
--- so many are still on their way, of those that entered
+-- `left` of the packets that entered are still on their way
 pub record HasLeft (tables : Tables) (board : Board) (left : ℕ) : Type 0 where
   pub running : IsRunning tables board
   pub left_is : left ≡ left_of (flow_of board)
   pub few : left ≤ length board.packets.items
 
--- the next move is made
+-- the next move leads from `old` to `new`
 pub record HasTurned (tables : Tables) (old new : Board) (went : Went) : Type 0 where
   pub turn :
       (layout : LayoutOf) → IsOver layout (view_of tables old)

@@ -1,4 +1,4 @@
--- Where something may happen next, as the program keeps it.
+-- The places where something can happen next, as the program keeps them.
 use Rattle.std.specs.Prelude.{◌≡◌, ◌≢◌, ◌<◌, ◌↔◌, ℕ, List, Some, All, Bool, IsTrue, bit_and, length}
 use Rattle.std.specs.Prelude.{slice_index}
 use Rattle.std.specs.Int.{bit_at}
@@ -12,17 +12,17 @@ use Rattle.flow_channels.specs.Flows.{FlowOf, PacketOf, first_of, queue_at, wait
 use Rattle.flow_channels.specs.Layout.{LayoutOf, spot}
 use Rattle.flow_channels.specs.Moves.{CanArrive, HasRoom}
 
--- a set of places has a place
+-- the set has the index `place`
 abbrev pub HasPlace : List ℕ → ℕ → Type 0
 HasPlace sets place = bit_and (slice_index sets place) 1 ≢ 0
 
--- nobody who waits at a switch may go by a port whose channel has room
+-- no packet that waits at the switch `at` has an exit whose channel has free space
 abbrev pub IsIdle : Tables → FlowOf → ℕ → Type 0
 IsIdle tables flow at =
     All (λ wait. All (λ port. HasRoom (ways tables) flow (spot at port) → ⊥)
     (ports_of (exit_set tables.exits (spot at wait.entry) wait.packet.to))) (waiting_at flow at)
 
--- the channels whose first packet is at its target
+-- `sets` has exactly the channels whose first packet is at its target
 pub record AreArriving (tables : Tables) (flow : FlowOf) (sets : List ℕ) : Type 0 where
   pub count : length sets ≡ 2048
   pub all : (channel : Channel) → IsSpot channel → CanArrive (ways tables) flow channel
@@ -31,33 +31,33 @@ pub record AreArriving (tables : Tables) (flow : FlowOf) (sets : List ℕ) : Typ
       → (channel : Channel) × IsSpot channel × (place_of channel ≡ place)
       × CanArrive (ways tables) flow channel
 
--- at least the switches at which somebody can go
+-- `sets` has at least the switches where a packet can leave
 pub record AreAwake (tables : Tables) (flow : FlowOf) (sets : List ℕ) : Type 0 where
   pub count : length sets ≡ 2048
   pub low : (at : ℕ) → HasPlace sets at → at < 127
   pub others : (at : ℕ) → at < 127 → (HasPlace sets at → ⊥) → IsIdle tables flow at
 
--- for each switch the ports whose channels have room, by the numbers below an end
+-- `sets` has, for each switch with a number below `end`, the ports whose channels have free space
 pub record AreFreePorts (tables : Tables) (flow : FlowOf) (end : ℕ) (sets : List ℕ) : Type 0 where
   pub count : length sets ≡ end
   pub each :
       (at port : ℕ) → at < end
       → ((bit_at (slice_index sets at) port ≡ 1) ↔ HasRoom (ways tables) flow (spot at port))
 
--- the three sets are those of this flow
+-- the three sets of `watch` are those of `flow`
 pub record IsWatched (tables : Tables) (flow : FlowOf) (watch : Watch) : Type 0 where
   pub arriving : AreArriving tables flow watch.arriving
   pub free : AreFreePorts tables flow 127 watch.free.items
   pub awake : AreAwake tables flow watch.awake
 
--- the first packet of a channel, if there is one, is at its target
+-- the first packet of `channel`, if there is one, is at its target
 abbrev pub NoneAsks : LayoutOf → FlowOf → Channel → Type 0
 NoneAsks layout flow channel =
     (end : Channel) (packet : PacketOf) → layout.far channel ≡ Some end → first_of flow channel ≡ Some packet
     → end.at ≡ packet.to
 
--- what came or went in a channel: the others have the same packets, and who waits is the same but at its
--- far side, and there too unless its first packet waits there
+-- a packet came or went in `channel`: the other channels have the same packets, and the same packets wait everywhere
+-- except at its far side, and also there unless its first packet waits there
 pub record IsTouched (layout : LayoutOf) (channel : Channel) (old new : FlowOf) : Type 0 where
   pub queues :
       (other : Channel) → place_of other ≢ place_of channel → queue_at new other ≡ queue_at old other
@@ -66,14 +66,14 @@ pub record IsTouched (layout : LayoutOf) (channel : Channel) (old new : FlowOf) 
       → waiting_at new at ≡ waiting_at old at
   pub still : NoneAsks layout new channel → (at : ℕ) → waiting_at new at ≡ waiting_at old at
 
--- what held before something came or went in a channel
+-- `Holds` was true before a packet came or went in `channel`
 pub record HeldBefore (tables : Tables) (channel : Channel) (flow : FlowOf) (Holds : FlowOf → Type 0)
     : Type 0 where
   pub old : FlowOf
   pub held : Holds old
   pub touched : IsTouched (ways tables) channel old flow
 
--- a set with a port, or without it, and the other ports of another set
+-- the set `new` has `port` if and only if `is_in`, and the other ports of the set `old`
 pub record HasPortIf (old port : ℕ) (is_in : Bool) (new : ℕ) : Type 0 where
   pub here : (bit_at new port ≡ 1) ↔ IsTrue is_in
   pub others : (other : ℕ) → other ≢ port → bit_at new other ≡ bit_at old other

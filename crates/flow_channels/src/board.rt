@@ -1,4 +1,4 @@
-//! Packets in channels and at routers. A move into or out of a channel tells what its first packet then does.
+//! Packets in channels and at routers. A move into or out of a channel reports what its first packet does next.
 
 ghost use Rattle.std.specs.Prelude.{◌≡◌, ◌<◌, ◌≤◌, ◌++◌, ◌∷◌, [], length, slice_get};
 ghost use Rattle.std.specs.Prelude.{slice_index_or, IfOk, IsTrue, MatchOption, Some, ◌↔◌};
@@ -14,13 +14,13 @@ ghost use Rattle.flow_channels.specs.Turns.{AreFree, IsAtTarget};
 use crate::exits::NUMBERS;
 use crate::queue::Queue;
 use crate::tables::Tables;
-use an_base::memory::OutOfMemory;
+use common_values::memory::OutOfMemory;
 use dep_check::channel::Channel;
 use dep_check::spot::{SPOTS, place_of, spot_at};
 use fcfc_router::router::Router;
 use std::alloc::Global;
 
-/// A packet that entered, and the number of the switch to which it goes.
+/// A packet that entered, and the number of the switch that it goes to.
 #[derive(Clone, Copy)]
 pub struct Packet {
     /// The packet.
@@ -29,7 +29,7 @@ pub struct Packet {
     pub to: u8,
 }
 
-/// A packet that is at its target, the first one of a channel.
+/// A packet at its target, which is the first packet of a channel.
 #[derive(Clone, Copy)]
 pub struct Arrival {
     /// The channel.
@@ -38,14 +38,14 @@ pub struct Arrival {
     pub packet: Packet,
 }
 
-/// A packet that is let go, by its place among those that entered.
+/// A packet that was granted a port, by its index among the packets that entered.
 #[derive(Clone, Copy)]
 pub struct Departure {
     /// The number of the switch.
     pub at: u8,
     /// The port.
     pub exit: u8,
-    /// The place of the packet.
+    /// The index of the packet.
     pub slot: u32,
 }
 
@@ -54,9 +54,9 @@ pub struct Departure {
 pub enum Ahead {
     /// There is no such packet, or no far side.
     Rests,
-    /// It is at its target.
+    /// The packet is at its target.
     Arrives,
-    /// It asks to go on.
+    /// The packet asks for a port there.
     Asks {
         /// The far side.
         end: Channel,
@@ -64,7 +64,7 @@ pub enum Ahead {
 }
 
 impl Ahead {
-    /// The far side, if it asks there.
+    /// Returns the far side, if the packet asks there.
     pub fn asks(&self) -> Option<Channel>
         ensures { result ≡ asks_of self.now }
     {
@@ -76,16 +76,16 @@ impl Ahead {
     }
 }
 
-/// Where the packets are. Each has a place in the order in which they entered, its slot.
+/// The packets and where they are. The slot of a packet is its index in the order of entering.
 #[derive(Drop)]
 pub struct Board {
     /// The packets that entered.
     pub packets: Vec<Packet>,
-    /// For each packet that waits the entry at which it came in, 0 if it starts there.
+    /// For each packet that waits, the port where it arrived; 0 if it starts there.
     pub entries: Vec<u8>,
     /// The packets in the channel of each spot.
     pub queues: Vec<Queue>,
-    /// Who waits at the switch of each number.
+    /// The requests that wait at the switch of each number.
     pub routers: Vec<Router>,
 }
 
@@ -158,7 +158,9 @@ impl Board {
         Ahead::Asks { end }
     }
 
-    /// The first packet of a channel leaves it, and the next one asks.
+    /// Removes the first packet of `channel`, and lets the next one ask. Returns what that one does.
+    ///
+    /// The caller must pass the tables of the board, and the resulting flow must be sound.
     pub fn leave(&mut self, tables: &Tables, channel: Channel) -> Ahead
         requires kept { IsKept tables.now self.old }
         requires spot { IsSpot channel }
@@ -172,7 +174,10 @@ impl Board {
         self.first_asks(tables, channel)
     }
 
-    /// A packet comes last in a channel, and asks if it is the first there.
+    /// Adds the packet `slot` at the end of `channel`, and lets it ask if it is first.
+    ///
+    /// Returns what the first packet does.
+    /// The caller must pass the tables of the board, and the resulting flow must be sound.
     pub fn come_into(&mut self, tables: &Tables, channel: Channel, slot: u32) -> Ahead
         requires kept { IsKept tables.now self.old }
         requires spot { IsSpot channel }
@@ -191,7 +196,7 @@ impl Board {
         self.ahead(tables, channel)
     }
 
-    /// The first packet of a channel, if it is at its target.
+    /// Returns the first packet of `channel`, if it is at its target.
     pub fn arrived_in(&self, tables: &Tables, channel: Channel) -> Option<Packet>
         requires kept { IsKept tables.now self.now }
         requires spot { IsSpot channel }
@@ -207,7 +212,7 @@ impl Board {
         None
     }
 
-    /// Whether a port has a channel with room.
+    /// Reports whether `channel` is a channel with free space.
     pub fn has_room(&self, tables: &Tables, channel: Channel) -> bool
         requires kept { IsKept tables.now self.now }
         requires spot { IsSpot channel }
@@ -216,7 +221,7 @@ impl Board {
         tables.far(channel).is_some() && self.queues[place_of(channel)].len() < tables.room
     }
 
-    /// The ports of a switch whose channels have room.
+    /// Returns the ports of the switch `at` whose channels have free space, as a set.
     pub fn free_ports(&self, tables: &Tables, at: u8) -> u16
         requires kept { IsKept tables.now self.now }
         requires at { at < 127 }
@@ -231,7 +236,9 @@ impl Board {
         free
     }
 
-    /// A packet enters at a switch, and asks there.
+    /// Lets `packet` enter at the switch `from`, and ask there.
+    ///
+    /// The caller must pass the tables of the board, there must be space, and the resulting flow must be sound.
     pub fn enter(&mut self, tables: &Tables, packet: Packet, from: u8)
         requires kept { IsKept tables.now self.old }
         requires from { from < 127 }
@@ -326,7 +333,10 @@ fn idle_routers(alloc: Global, tables: &Tables, most: u32) -> Result<Vec<Router>
 }
 
 impl Board {
-    /// Nobody is on the way.
+    /// Creates a board without packets. The caller must pass a limit from 1 to 10,012 in `tables`.
+    ///
+    /// # Errors
+    /// `OutOfMemory` if an allocation fails.
     pub fn new(alloc: Global, tables: &Tables) -> Result<Self, OutOfMemory>
         requires within { WiresAreWithin tables.now.wires.items }
         requires least { 1 ≤ tables.now.limit }

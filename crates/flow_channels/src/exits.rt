@@ -1,4 +1,5 @@
-//! Exits by spot and number. Of a topology, a member's entries share two lists: of what may go up, and of the rest.
+//! Exits by spot and number. A member's ingress ports share two lists of exits: one for packets that may go up, and one
+//! for the rest.
 
 ghost use Rattle.std.specs.Prelude.{◌≡◌, ◌<◌, ◌↔◌, ◌++◌, ◌∷◌, ℕ, [], All, Contains, IfOk, List, length};
 ghost use Rattle.std.specs.Prelude.{if◌then◌else◌};
@@ -9,9 +10,9 @@ ghost use Rattle.flow_channels.specs.Exits.{AreExitsOf};
 ghost use Rattle.flow_channels.specs.Sets.{AreInTurn, AreSetsOf, AreStartsBelow};
 
 use an_base::limits::{LAST_PORT, MOST_NUMBER};
-use an_base::memory::OutOfMemory;
 use an_base::numbers::Numbers;
 use an_base::row::Row;
+use common_values::memory::OutOfMemory;
 use dep_check::channel::Channel;
 use dep_check::ports::with;
 use dep_check::spot::{SPOTS, place_of};
@@ -22,11 +23,12 @@ use table_build::routing::Routing;
 use table_build::way::{Way, ways_of};
 use topo_graph::graph::Graph;
 
-/// How many places a table by number has: for the numbers 0 to 126.
+/// The length of a table by number, for the numbers 0 to 126.
 pub const NUMBERS: u8 = 127;
 
-/// For what came in at each spot and goes to each number, the set of the exits by which it may go on. Spots
-/// may have their sets in common. Contracts see all sets, by spot and then by number.
+/// The set of exits for packets that arrive at each spot and go to each number.
+///
+/// Spots can share their sets. Contracts see all sets, by spot, then by number.
 #[derive(Drop)]
 pub struct ExitTable {
     // For each spot where its sets start.
@@ -131,7 +133,12 @@ impl ExitTable {
     ghost use Rattle.flow_channels.specs.Board.{exit_set};
     ghost use Rattle.flow_channels.specs.Exits.{AreExitsOf};
 
-    /// The exits of the tables of all members of a graph, with one number for each of its entries.
+    /// Computes the exits of the tables of all members of `graph`.
+    ///
+    /// If `any`, routes of any length are allowed. The caller must pass one number for each entry of the graph.
+    ///
+    /// # Errors
+    /// `OutOfMemory` if an allocation fails.
     pub fn of(
         alloc: Global,
         graph: &Graph,
@@ -158,8 +165,13 @@ impl ExitTable {
         Ok(ExitTable { starts, sets })
     }
 
-    /// The exits of rows in any order. Those of rows for one switch, entry and number count together, and a row
-    /// for what is no spot or no number, 0 to 126, has none.
+    /// Collects the exits of `rows`, which can be in any order.
+    ///
+    /// The exits of rows for the same switch, ingress port and number count together. A row whose spot is not
+    /// valid, or whose number is not from 0 to 126, is ignored.
+    ///
+    /// # Errors
+    /// `OutOfMemory` if an allocation fails.
     pub fn of_rows(alloc: Global, rows: &[Row]) -> Result<Self, OutOfMemory>
         ensures { IfOk result (AreExitsOf rows.now) }
     {
@@ -172,7 +184,7 @@ impl ExitTable {
         Ok(ExitTable { starts, sets })
     }
 
-    /// The exits for what came in at a spot and goes to a number.
+    /// Returns the exits, as a set, for packets that arrive at `came` and go to the number `to`, at most 126.
     pub fn get(&self, came: Channel, to: u8) -> u16
         requires spot { IsSpot came }
         requires to { to < 127 }

@@ -1,10 +1,10 @@
-//! The flow itself: packets enter, and each turn is an arrival if there is one, else a departure.
+//! The flow itself: packets enter, and each turn is an arrival if there is one, otherwise a departure.
 
 ghost use Rattle.std.specs.Prelude.{◌≡◌, ◌+◌, ◌≤◌, ◌↔◌, List, [], ◌∷◌, ◌++◌, length, IfOk, IfSome, IfNone, IsNone};
 ghost use Rattle.std.specs.Prelude.{MatchOption};
 ghost use Rattle.an_base.specs.Rows.{RowOf};
 ghost use Rattle.dep_check.specs.Channels.{far_at, LeadsTo};
-ghost use Rattle.channel_graph.specs.Cycles.{HasNoCycle};
+ghost use Rattle.common_graph.specs.Cycles.{HasNoCycle};
 ghost use Rattle.dep_check.specs.Packets.{AllAreJoined};
 ghost use Rattle.flow_channels.specs.Board.{flow_of};
 ghost use Rattle.flow_channels.specs.Exits.{AreExitsOf};
@@ -21,13 +21,13 @@ use crate::exits::ExitTable;
 use crate::tables::Tables;
 use crate::watch::Watch;
 use crate::went::Went;
-use an_base::memory::OutOfMemory;
 use an_base::numbers::Numbers;
+use common_values::memory::OutOfMemory;
 use std::alloc::Global;
 use std::marker::Model;
 use topo_graph::graph::Graph;
 
-/// Packets on their way through a topology, whose channels hold a few packets each.
+/// Packets on their way through a topology whose channels hold a few packets each.
 #[derive(Drop)]
 pub struct Flow {
     tables: Tables,
@@ -94,9 +94,14 @@ fn depart(tables: &Tables, board: &mut Board, watch: &mut Watch) -> Option<Went>
 }
 
 impl Flow {
-    /// No packet is on its way. The exits are those of rows by which no channels lead round and every two
-    /// switches are joined, as of rows that `check` lets pass; a channel holds `b` packets, at least 1; and
-    /// at most `most` packets may enter, 1 to 10,000.
+    /// Creates a flow without packets. A channel holds `b` packets, and at most `most` packets may enter.
+    ///
+    /// The caller must pass the exits of rows by which no channels form a cycle and every two switches are
+    /// joined, as of rows that pass `check`; one number for each entry of the graph; a `b` of at least 1; and a
+    /// `most` from 1 to 10,000.
+    ///
+    /// # Errors
+    /// `OutOfMemory` if an allocation fails.
     pub fn new(
         alloc: Global,
         graph: &Graph,
@@ -128,9 +133,10 @@ impl Flow {
         })
     }
 
-    /// A packet enters at the switch with the number `from`, for the one with the number `to`, and asks
-    /// there. It has not entered before, and the two are different numbers of the topology. It takes no
-    /// memory.
+    /// Lets `packet` enter at the switch with the number `from`, towards the number `to`, and ask there.
+    ///
+    /// The caller must pass a packet that has not entered before and two different numbers of the topology, and
+    /// fewer packets than the limit must have entered. It does not allocate.
     pub fn enter(&mut self, packet: u32, from: u8, to: u8)
         requires { MayEnterNow self.old packet from to }
         ensures flow { self.new ≡ record self.old {
@@ -145,9 +151,11 @@ impl Flow {
         self.left += 1;
     }
 
-    /// Makes the next move: the first packet of the least channel, by number and port, that is at its
-    /// target arrives; else the packet that is let go at the least number goes out. None exactly if no
-    /// packet is left, and then nothing changes. It takes no memory.
+    /// Makes the next move, and reports it.
+    ///
+    /// The first packet that is at its target, of the least such channel by number and port, arrives; otherwise
+    /// the packet that is granted a port at the lowest number goes out. Returns `None`, and changes nothing, if
+    /// and only if no packet is left. It does not allocate.
     pub fn turn(&mut self) -> Option<Went>
         ensures turned { (layout : LayoutOf) → IsOver layout self.old
             → TurnsTo layout self.old self.new result }
@@ -161,7 +169,7 @@ impl Flow {
         depart(&self.tables, &mut self.board, &mut self.watch)
     }
 
-    /// How many packets entered and have not arrived.
+    /// Returns the number of packets that entered and have not arrived.
     pub fn left(&self) -> u32
         ensures { result ≡ left_of self.now.flow }
     {

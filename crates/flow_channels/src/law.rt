@@ -1,4 +1,4 @@
-//! What holds of flows, above all over rows that pass. No function here has code.
+//! Theorems about flows, most of them over rows that pass. No function here has code.
 
 ghost use Rattle.std.specs.Prelude.{◌≡◌, ◌≢◌, ◌+◌, ◌≤◌, ℕ, Bool, List, [], Option, Some, length};
 ghost use Rattle.an_base.specs.Values.{EntryOf};
@@ -16,9 +16,10 @@ ghost use Rattle.flow_channels.specs.Moves.{FirstCanMove, IsPossible, IsTurn, Mo
 ghost use Rattle.flow_channels.specs.Runs.{Act, Comes, entered, greatest, hops_in, hops_of, moves_left};
 ghost use Rattle.flow_channels.specs.Sound.{IsSound};
 
-/// Over rows that pass, whatever comes about is sound, in whatever order moves are made: each packet is on a
-/// way that the rows lead, the first one of each channel asks where it is brought, and no channel has more than
-/// it holds.
+/// States that over rows that pass every flow that comes about is sound, in whatever order moves are made.
+///
+/// Every packet is on a path that the rows give, the first packet of each channel asks at the far side, and no
+/// channel has more packets than it holds.
 pub fn what_comes_about_is_sound()
     ensures { (entries : List EntryOf) (numbers : List ℕ) (rows : List RowOf) (ranks : List (Option ℕ))
         (most limit : ℕ) (acts : List Act) (flow : FlowOf)
@@ -29,8 +30,8 @@ pub fn what_comes_about_is_sound()
         × IsSound (layout_of entries numbers rows most) (entered acts) flow }
 {}
 
-/// While a packet is on its way, some packet can move; of the channels that have packets, the first one
-/// of each that has the least rank.
+/// States that some packet can move while a packet is on its way. Of the channels that have packets, the first
+/// packet of each channel of lowest rank can move.
 pub fn some_packet_can_move()
     ensures least { (layout : LayoutOf) (ranks : List (Option ℕ)) (known : List ℕ) (flow : FlowOf)
         (channel : Channel) (rank : ℕ)
@@ -44,8 +45,8 @@ pub fn some_packet_can_move()
         → left_of flow ≢ 0 → (move : Move) × IsPossible layout flow move }
 {}
 
-/// Over rows that pass, whatever entered and whichever possible moves were made, in whatever order: while a
-/// packet is on its way, some packet can move.
+/// States that no order of moves deadlocks: over rows that pass, whatever packets entered and whatever possible
+/// moves were made, in whatever order, some packet can move while a packet is on its way.
 pub fn no_order_of_moves_locks_up()
     ensures { (entries : List EntryOf) (numbers : List ℕ) (rows : List RowOf) (ranks : List (Option ℕ))
         (most limit : ℕ) (acts : List Act) (flow : FlowOf)
@@ -55,8 +56,8 @@ pub fn no_order_of_moves_locks_up()
         → (move : Move) × IsPossible (layout_of entries numbers rows most) flow move }
 {}
 
-/// So it is over the rows of the tables of all members of a topology whose positions are the tree of its
-/// links: those that the switches load.
+/// States that no order of moves deadlocks over the rows of the tables of all members, which the switches load,
+/// if the positions of the topology are the tree of its links.
 pub fn tables_of_a_topology_never_lock_up()
     ensures { (entries : List EntryOf) (numbers : List ℕ) (any : Bool) (rows : List RowOf) (most limit : ℕ)
         (acts : List Act) (flow : FlowOf)
@@ -66,7 +67,7 @@ pub fn tables_of_a_topology_never_lock_up()
         → (move : Move) × IsPossible (layout_of entries numbers rows most) flow move }
 {}
 
-/// Each turn is fixed by the flow before it, and so are the turns until no packet is left.
+/// States that a turn is determined by the flow before it, and so are the turns until no packet is left.
 pub fn one_run()
     ensures turn { (layout : LayoutOf) (old new other : FlowOf) (went way : Went)
         → IsTurn layout old went new → IsTurn layout old way other → (went ≡ way) × (new ≡ other) }
@@ -75,7 +76,7 @@ pub fn one_run()
         → Turns layout old ways other → left_of other ≡ 0 → (went ≡ ways) × (new ≡ other) }
 {}
 
-/// Turns end: each takes one from the moves that may be left.
+/// States that turns end: each lowers the bound on the moves left by at least one.
 pub fn turns_end()
     ensures { (layout : LayoutOf) (ranks : List (Option ℕ)) (known : List ℕ) (old new : FlowOf)
         (went : List Went)
@@ -83,8 +84,8 @@ pub fn turns_end()
         → length went + moves_left ranks new ≤ moves_left ranks old }
 {}
 
-/// No packet goes out more often than one above the greatest rank: over all that enters and all moves, in
-/// whatever order, if the rows pass; and in the turns from any sound flow.
+/// States that no packet goes out more often than the highest rank plus one: if the rows pass, over all packets
+/// and all moves in whatever order; and in the turns from every sound flow.
 pub fn hops_are_few()
     ensures all { (entries : List EntryOf) (numbers : List ℕ) (rows : List RowOf) (ranks : List (Option ℕ))
         (most limit : ℕ) (acts : List Act) (flow : FlowOf) (packet : ℕ)
@@ -98,7 +99,7 @@ pub fn hops_are_few()
         → hops_of packet went ≤ greatest ranks + 1 }
 {}
 
-/// No more packets are in a channel, or wait at a switch, than entered. So that many places suffice.
+/// States that no more packets are in a channel, or wait at a switch, than entered. So that much space suffices.
 pub fn never_more_than_entered()
     ensures queued { (layout : LayoutOf) (known : List ℕ) (flow : FlowOf) (channel : Channel)
         → IsSound layout known flow → IsSpot channel → length (queue_at flow channel) ≤ length known }

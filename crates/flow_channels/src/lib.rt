@@ -1,8 +1,10 @@
-//! Packets in finite channels: each channel is a queue of a few packets, and the router of each switch
-//! lets go by whoever asked first of those that could use a channel with room.
+//! autonet, tables: simulation of packets in channels with finite buffers.
 //!
-//! It stands on dep_check, of whose ranks its laws speak, and on fcfc_router. Its contract: each turn makes the
-//! next possible move, and over rows that dep_check lets pass there is one while a packet is left.
+//! Each channel is a queue of a few packets. The router of each switch lets the packet leave that asked first, of those
+//! that could use a channel with free space.
+//!
+//! It depends on `dep_check`, whose ranks its theorems use, and on `fcfc_router`. Its contract: each turn makes the
+//! next possible move; and over rows that pass `dep_check` there is one while a packet is left.
 #![tactic(auto)]
 
 mod board;

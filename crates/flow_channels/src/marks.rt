@@ -1,12 +1,12 @@
-//! A set of small numbers. One word tells which of the others have bits, so the least number is found at once.
+//! A set of small numbers. One word records which of the others have bits, so the lowest number is found at once.
 
 ghost use Rattle.std.specs.Prelude.{◌≡◌, ◌<◌, MatchOption, replicate, slice_set};
 ghost use Rattle.fcfc_router.specs.Tree.{HasNone, IsFirst};
 
 use std::marker::Model;
 
-/// A set of numbers below 2,048, be they places of channels or numbers of switches. Contracts see it as a list,
-/// which has 1 at each number that is in it and else 0.
+/// A set of numbers below 2,048: indices of channels or numbers of switches. Contracts see it as a list that has
+/// 1 at each number in the set, and otherwise 0.
 #[derive(Drop)]
 pub struct SpotMarks {
     // A bit for each place, 64 of them in a part; and the parts that have some.
@@ -26,7 +26,7 @@ impl Model for SpotMarks {
 }
 
 impl SpotMarks {
-    /// No place.
+    /// Creates an empty set.
     pub fn new() -> Self
         ensures { result ≡ replicate 2048 0 }
     {
@@ -36,7 +36,7 @@ impl SpotMarks {
         }
     }
 
-    /// Puts a place in.
+    /// Adds `place`, which must be below 2,048.
     pub fn insert(&mut self, place: usize)
         requires { place < 2048 }
         ensures { self.new ≡ slice_set self.old place 1 }
@@ -47,7 +47,7 @@ impl SpotMarks {
         self.some |= 1u32 << part;
     }
 
-    /// Takes a place out.
+    /// Removes `place`, which must be below 2,048.
     pub fn remove(&mut self, place: usize)
         requires { place < 2048 }
         ensures { self.new ≡ slice_set self.old place 0 }
@@ -60,7 +60,7 @@ impl SpotMarks {
         }
     }
 
-    /// The least place; none exactly if there is no place.
+    /// Returns the lowest number in the set, or `None` if and only if it is empty.
     pub fn first(&self) -> Option<usize>
         ensures { MatchOption result (HasNone 1 self.now) (IsFirst 1 self.now) }
     {

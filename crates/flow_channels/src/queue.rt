@@ -1,14 +1,13 @@
-//! The queue of a channel. Its room is taken beforehand, so that no move needs memory.
+//! The queue of a channel. Its memory is allocated in advance, so that no move allocates.
 
 ghost use Rattle.std.specs.Prelude.{◌≡◌, ◌<◌, [], ◌∷◌, ◌++◌, length, drop, slice_get, IfOk};
 
-use an_base::memory::OutOfMemory;
+use common_values::memory::OutOfMemory;
 use std::alloc::Global;
 use std::collections::VecDeque;
 use std::marker::Model;
 
-/// The packets in a channel, by the places in which they entered, the first one first. There is room for
-/// so many.
+/// The packets in a channel, by slot, the first packet first. Its space is limited.
 #[derive(Drop)]
 pub struct Queue {
     slots: VecDeque<u32>,
@@ -28,7 +27,10 @@ impl Model for Queue {
 }
 
 impl Queue {
-    /// No packet, and room for so many.
+    /// Creates an empty queue with space for `places` packets.
+    ///
+    /// # Errors
+    /// `OutOfMemory` if the allocation fails.
     pub fn new(alloc: Global, places: usize) -> Result<Self, OutOfMemory>
         ensures { IfOk result (λ queue. queue ≡ record { places = places; slots = [] }) }
     {
@@ -38,28 +40,28 @@ impl Queue {
         })
     }
 
-    /// How many packets there are.
+    /// Returns the number of packets.
     pub fn len(&self) -> usize
         ensures { result ≡ length self.now.slots }
     {
         self.slots.len()
     }
 
-    /// The first packet.
+    /// Returns the first packet, if there is one.
     pub fn first(&self) -> Option<u32>
         ensures { result ≡ slice_get self.now.slots 0 }
     {
         self.slots.front().copied()
     }
 
-    /// The first packet leaves, if there is one.
+    /// Removes the first packet, if there is one.
     pub fn pop(&mut self)
         ensures { self.new ≡ record self.old { slots = drop 1 self.old.slots } }
     {
         let _left = self.slots.pop_front();
     }
 
-    /// A packet comes last. It takes no memory.
+    /// Adds the packet `slot` at the end, without allocating. There must be space.
     pub fn push(&mut self, slot: u32)
         requires { length self.old.slots < self.old.places }
         ensures { self.new ≡ record self.old { slots = self.old.slots ++ slot ∷ [] } }

@@ -1,4 +1,4 @@
-//! The part of a flow that no move changes, apart so that each move can read it while it changes the rest.
+//! The part of a flow that no move changes, separate so that each move can read it while it changes the rest.
 
 ghost use Rattle.std.specs.Prelude.{◌≡◌, List, length, IfOk};
 ghost use Rattle.an_base.specs.Numbers.{AreNumbers};
@@ -9,8 +9,8 @@ ghost use Rattle.flow_channels.specs.Exits.{AreExitsOf};
 ghost use Rattle.flow_channels.specs.Layout.{layout_of};
 
 use crate::exits::ExitTable;
-use an_base::memory::OutOfMemory;
 use an_base::numbers::Numbers;
+use common_values::memory::OutOfMemory;
 use dep_check::channel::Channel;
 use dep_check::spot::place_of;
 use dep_check::wires::wires_of;
@@ -22,16 +22,19 @@ use topo_graph::graph::Graph;
 pub struct Tables {
     /// The far side of each spot.
     pub wires: Vec<Option<Channel>>,
-    /// The exits by which packets go on.
+    /// The exits that packets leave by.
     pub exits: ExitTable,
-    /// How many packets a channel holds.
+    /// The number of packets that a channel holds.
     pub room: usize,
-    /// How many packets may enter.
+    /// The number of packets that may enter.
     pub limit: u32,
 }
 
 impl Tables {
-    /// Those of a topology.
+    /// Creates the tables of a topology. The caller must pass one number for each entry of `graph`.
+    ///
+    /// # Errors
+    /// `OutOfMemory` if an allocation fails.
     pub fn of(
         alloc: Global,
         graph: &Graph,
@@ -54,7 +57,7 @@ impl Tables {
         })
     }
 
-    /// The far side of a spot, if a link is there.
+    /// Returns the far side of `spot`, if it has a link.
     pub fn far(&self, spot: Channel) -> Option<Channel>
         requires { IsSpot spot }
         ensures { result ≡ wire_at self.now.wires.items spot }

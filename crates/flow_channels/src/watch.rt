@@ -1,4 +1,4 @@
-//! What a turn looks at instead of all channels and switches. All moves of the board go through it, so it stays true.
+//! An index that a turn uses instead of checking all channels and switches. All moves of the board update it.
 
 ghost use Rattle.std.specs.Prelude.{◌≡◌, ◌<◌, ◌≤◌, ◌++◌, ◌∷◌, [], length, slice_index};
 ghost use Rattle.std.specs.Prelude.{IfOk, IsNone, MatchOption};
@@ -14,20 +14,20 @@ use crate::board::{Ahead, Arrival, Board, Departure, Packet};
 use crate::exits::NUMBERS;
 use crate::marks::SpotMarks;
 use crate::tables::Tables;
-use an_base::memory::OutOfMemory;
+use common_values::memory::OutOfMemory;
 use dep_check::channel::Channel;
 use dep_check::spot::{place_of, spot_at};
 use fcfc_router::router::Grant;
 use std::alloc::Global;
 
-/// Which channels and switches may make the next move.
+/// The channels and switches that can make the next move.
 #[derive(Drop)]
 pub struct Watch {
-    /// The places of the channels whose first packet is at its target: 1 for each.
+    /// The indices of the channels whose first packet is at its target.
     pub arriving: SpotMarks,
-    /// For each switch the ports whose channels have room, by its number.
+    /// For each switch, by number, the ports whose channels have free space.
     pub free: Vec<u16>,
-    /// At least the numbers of the switches at which somebody can go.
+    /// The numbers of the switches where some packet can leave, and perhaps of others.
     pub awake: SpotMarks,
 }
 
@@ -92,7 +92,10 @@ fn see_first(
 }
 
 impl Watch {
-    /// That of a board on which nobody is on the way.
+    /// Creates the index of `board`, which must have no packets on the way.
+    ///
+    /// # Errors
+    /// `OutOfMemory` if an allocation fails.
     pub fn new(alloc: Global, tables: &Tables, board: &Board) -> Result<Self, OutOfMemory>
         requires kept { IsKept tables.now board.now }
         requires empty { flow_of board.now ≡ empty_flow }
@@ -122,7 +125,9 @@ impl Watch {
         }
     }
 
-    /// The first packet of a channel leaves it, and the next one asks.
+    /// Removes the first packet of `channel`, and lets the next one ask.
+    ///
+    /// The caller must pass the tables and the board of this index, and the resulting flow must be sound.
     pub fn leave(&mut self, tables: &Tables, board: &mut Board, channel: Channel)
         requires kept { IsKept tables.now board.old }
         requires watched { IsWatched tables.now (flow_of board.old) self.old }
@@ -169,7 +174,9 @@ impl Watch {
         self.see(tables, board, channel, ahead);
     }
 
-    /// A packet that was let go leaves the channel that brought it, and goes into that of the port.
+    /// Moves the packet of `departure` from the channel that brought it, if one did, into the channel of its port.
+    ///
+    /// The caller must pass the tables and the board of this index, and the resulting flows must be sound.
     pub fn go(&mut self, tables: &Tables, board: &mut Board, departure: Departure)
         requires kept { IsKept tables.now board.old }
         requires watched { IsWatched tables.now (flow_of board.old) self.old }
@@ -196,7 +203,10 @@ impl Watch {
         self.come_into(tables, board, channel, departure.slot);
     }
 
-    /// A packet enters at a switch, and asks there.
+    /// Lets `packet` enter at the switch `from`, and ask there.
+    ///
+    /// The caller must pass the tables and the board of this index; there must be space, and the resulting flow must be
+    /// sound.
     pub fn enter(&mut self, tables: &Tables, board: &mut Board, packet: Packet, from: u8)
         requires kept { IsKept tables.now board.old }
         requires watched { IsWatched tables.now (flow_of board.old) self.old }
@@ -214,7 +224,7 @@ impl Watch {
         self.awake.insert(usize::from(from));
     }
 
-    /// The first channel whose first packet is at its target, and that packet.
+    /// Returns the first channel whose first packet is at its target, and that packet, if there is one.
     pub fn arrival(&self, tables: &Tables, board: &Board) -> Option<Arrival>
         requires kept { IsKept tables.now board.now }
         requires watched { IsWatched tables.now (flow_of board.now) self.now }
@@ -227,7 +237,9 @@ impl Watch {
         Some(Arrival { channel, packet })
     }
 
-    /// Lets go the packet that asked first of those that can go, at the first switch where one can.
+    /// Grants a port to the packet that asked first of those that can leave, at the first switch where one can.
+    ///
+    /// Returns `None`, and moves no packet, if no packet can leave.
     pub fn departure(&mut self, tables: &Tables, board: &mut Board) -> Option<Departure>
         requires kept { IsKept tables.now board.old }
         requires watched { IsWatched tables.now (flow_of board.old) self.old }

@@ -9,8 +9,8 @@ use Rattle.std.proofs.lemmas.List.Folds.{Any-from_list_any}
 use Rattle.std.proofs.lemmas.List.Sums.{sum_by-append, sum_by-cons}
 use Rattle.std.proofs.lemmas.Option.{same_Some}
 use Rattle.an_base.specs.Values.{EntryOf, LifeId}
-use Rattle.an_base.proofs.ListLemmas.{AllPairs-head, AllPairs-tail}
-use Rattle.an_base.proofs.PairLemmas.{AllPairs-map}
+use Rattle.common_values.proofs.ListLemmas.{AllPairs-head, AllPairs-tail}
+use Rattle.common_values.proofs.PairLemmas.{AllPairs-map}
 use Rattle.net_graph.specs.Forest.{IsComponent, IsForest, IsMember, RootsBelow}
 use Rattle.net_graph.specs.Wires.{IsWired, Wires, uid_of}
 use Rattle.net_graph.proofs.CollectLemmas.{uid_one}

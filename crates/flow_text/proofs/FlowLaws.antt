@@ -5,8 +5,8 @@ use Rattle.std.specs.Prelude.{fold}
 use Rattle.std.proofs.lemmas.Simd.{map-map}
 use Rattle.std.proofs.lemmas.List.Elements.{All-contains, All-head, All-map, All-tail, All-weaker}
 use Rattle.an_base.specs.Values.{EntryOf}
-use Rattle.an_base.proofs.ListLemmas.{AllPairs-head, AllPairs-tail}
-use Rattle.an_base.proofs.MemberLemmas.{Contains-cons_cases, Contains-image}
+use Rattle.common_values.proofs.ListLemmas.{AllPairs-head, AllPairs-tail}
+use Rattle.common_values.proofs.MemberLemmas.{Contains-cons_cases, Contains-image}
 use Rattle.net_graph.specs.Forest.{IsForest}
 use Rattle.net_graph.proofs.OneForest.{one_forest_of}
 use Rattle.net_script.specs.Scripts.{ScriptOf, IsScript}

@@ -11,7 +11,7 @@ use Rattle.an_base.specs.Values.{EntryOf}
 use Rattle.an_base.specs.Numbers.{AreNumbers}
 use Rattle.an_base.specs.declared.event.Event.{Event}
 use Rattle.an_base.specs.declared.event.Event.TheVariants.{Tick, Clock, Take, Handle, Load, Fail, Repair, Lose, Again, Swap, Noise, Send, Move, Restart}
-use Rattle.an_base.proofs.PairLemmas.{AllPairs-append}
+use Rattle.common_values.proofs.PairLemmas.{AllPairs-append}
 use Rattle.net_graph.specs.declared.wiring.SwitchAt.{SwitchAt}
 use Rattle.net_graph.specs.Wires.{Wires, IsWired, uid_of}
 use Rattle.net_graph.proofs.CollectLemmas.{uid_one}

@@ -12,8 +12,8 @@ use Rattle.std.proofs.lemmas.Grind.{flat_map-append}
 use Rattle.an_base.specs.Values.{EntryOf}
 use Rattle.net_graph.specs.declared.wiring.SwitchAt.{SwitchAt}
 use Rattle.net_graph.specs.Forest.{IsForest}
-use Rattle.text_lines.specs.Lines.{line_text}
-use Rattle.text_lines.proofs.FormTexts.{text_push, go_on}
+use Rattle.common_lines.specs.Lines.{line_text}
+use Rattle.common_lines.proofs.FormTexts.{text_push, go_on}
 use Rattle.net_script.specs.Scripts.{IsScript, ScriptOf}
 use Rattle.flow_channels.specs.declared.went.Went.{Went}
 use Rattle.flow_text.specs.declared.sent.Sent.{Sent}

@@ -18,7 +18,7 @@ use Rattle.table_build.specs.Made.{table_of}
 use Rattle.table_build.specs.Tables.{IsTable, TableOf}
 use Rattle.table_build.proofs.MadeTables.{made_table}
 use Rattle.dep_check.specs.Channels.{far_at, LeadsTo}
-use Rattle.channel_graph.specs.Cycles.{HasNoCycle}
+use Rattle.common_graph.specs.Cycles.{HasNoCycle}
 use Rattle.dep_check.specs.Laws.{AreTables as AllTables}
 use Rattle.dep_check.specs.Packets.{AllAreJoined}
 use Rattle.dep_check.proofs.TableLaws.{tables_no_cycle, tables_joined}

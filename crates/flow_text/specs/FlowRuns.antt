@@ -16,28 +16,28 @@ use Rattle.flow_text.specs.declared.sent.Sent.{Sent}
 use Rattle.row_text.specs.Names.{name_of}
 use Rattle.flow_text.specs.Flows.{entered_flow, entries_of, flow_told, FlowPart, IsFlowPart, is_out, part_lines, went_line}
 
--- What private functions alone cite: a run of the packets that enter a component.
+-- A run of the packets that enter a component, used only by private functions.
 
--- the graph of a component, in which the members have these numbers
+-- `entries` are the graph of a component, and `numbers` the numbers of its members
 pub record IsNumbered (entries : List EntryOf) (numbers : List ℕ) : Type 0 where
   pub graph : IsGraph entries
   pub tree : IsTree entries
   pub named : AreNumbers numbers
   pub count : length numbers ≡ length entries
 
--- rows that are those of the tables of all its members, so that they are never refused
+-- `rows` are those of the tables of all members of a component, so they are never rejected
 pub record AreOwnRows (any : Bool) (entries : List EntryOf) (numbers : List ℕ) (rows : List RowOf)
     : Type 0 where
   pub numbered : IsNumbered entries numbers
   pub tables : AllTables entries numbers any rows
 
--- the graph of a component, the numbers of its members, and the exits of their tables
+-- `graph` is the graph of a component, `numbers` are those of its members, and `sets` are the exits of their tables
 pub record AreTabled (any : Bool) (entries graph : List EntryOf) (numbers sets : List ℕ) : Type 0 where
   pub graph_is : graph ≡ entries
   pub numbers_are : numbers ≡ numbering graph
   pub exits : (rows : List RowOf) → AllTables graph numbers any rows → AreExitsOf rows sets
 
--- a layout of a component, by the rows of the tables of its members, whose exits these are
+-- a layout of a component, by the rows of its members' tables, whose exits are `sets`
 pub record IsOwnLayout (entries : List EntryOf) (numbers sets : List ℕ) (room : ℕ) (layout : LayoutOf)
     : Type 0 where
   pub any : Bool
@@ -45,32 +45,32 @@ pub record IsOwnLayout (entries : List EntryOf) (numbers sets : List ℕ) (room 
   pub exits : AreExitsOf layout.rows sets
   pub is : layout ≡ layout_of entries numbers layout.rows room
 
--- a flow that no packet entered yet, with room for these
+-- a flow that no packet has entered, with room for the packets in `sends`
 pub record IsReady (layout : LayoutOf) (sends : List Sent) (view : FlowView) : Type 0 where
   pub over : IsOver layout view
   pub known_is : view.known ≡ []
   pub flow_is : view.flow ≡ empty_flow
   pub room : length sends ≤ view.limit
 
--- the same flow, with these packets entered
+-- the flow after the packets in `sends` have entered it
 pub record HasEntered (home : List ℕ) (sends : List Sent) (old new : FlowView) : Type 0 where
   pub known_is : new.known ≡ map (λ sent. sent.packet) sends
   pub flow_is : new.flow ≡ entered_flow home sends
   pub limit_is : new.limit ≡ old.limit
 
--- a flow over rows whose channels have these ranks
+-- a flow over rows whose channels have ranks `ranks`
 pub record IsRanked (ranks : List (Option ℕ)) (view : FlowView) : Type 0 where
   pub layout : LayoutOf
   pub over : IsOver layout view
   pub ranked : HasRanks layout ranks
 
--- these are turns from a flow on, until no packet is left
+-- `moves` are turns from the flow `start` on, until no packet is left
 pub record IsRunFrom (layout : LayoutOf) (start : FlowOf) (moves : List Went) : Type 0 where
   pub end : FlowOf
   pub turns : Turns layout start moves end
   pub done : left_of end ≡ 0
 
--- for each number below an end a space and the name of the switch that has it
+-- for each number below `end`, a space and the name of the switch that has it
 pub record AreNames (script : ScriptOf) (entries : List EntryOf) (numbers : List ℕ) (end : ℕ)
     (names : List (List ℕ))
     : Type 0 where
@@ -79,13 +79,13 @@ pub record AreNames (script : ScriptOf) (entries : List EntryOf) (numbers : List
       (number : ℕ) → number < end
       → slice_index_or names number [] ≡ 32 ∷ name_of script entries numbers number
 
--- a flow over a layout, into which packets have come
+-- a flow over a layout, which the packets in `sends` have entered
 pub record IsBegun (layout : LayoutOf) (home : List ℕ) (sends : List Sent) (view : FlowView) : Type 0 where
   pub over : IsOver layout view
   pub flow_is : view.flow ≡ entered_flow home sends
 
--- the turns from a flow on until no packet is left, with their lines after a text and those that go out
--- counted
+-- the turns from the flow `start` on until no packet is left: `text` is `base` and their lines, and `out` is
+-- `before` plus the number of moves out of a switch
 pub record IsToldRun (layout : LayoutOf) (script : ScriptOf) (entries : List EntryOf) (start : FlowOf)
     (base text : List ℕ) (before out : ℕ)
     : Type 0 where
@@ -94,8 +94,8 @@ pub record IsToldRun (layout : LayoutOf) (script : ScriptOf) (entries : List Ent
   pub text_is : text ≡ base ++ flow_told (map (went_line script entries) moves)
   pub out_is : out ≡ before + count_by is_out moves
 
--- the moves of the packets that enter a component, with their lines after a text and those that go out
--- counted
+-- the moves of the packets that enter a component: `text` is `base` and their lines, and `out` is `before` plus
+-- the number of moves out of a switch
 pub record IsToldPart (script : ScriptOf) (room : ℕ) (entries : List EntryOf) (base text : List ℕ)
     (before out : ℕ)
     : Type 0 where

@@ -1,4 +1,4 @@
-//! What becomes of the packets that a script sends, if channels hold a few each.
+//! Prints what happens to the packets that a script sends, in channels of finite buffers.
 
 ghost use Rattle.std.specs.Prelude.{◌≡◌, ◌+◌, ◌-◌, ◌++◌, ◌∷◌, ◌<◌, ◌≤◌, ℕ, Bool, List, Option, [], codes, count_by, filter, length};
 ghost use Rattle.std.specs.Prelude.{Contains, IfOk, IfSome, OnOk, slice_index_or, vec_capacity, vec_len};
@@ -7,7 +7,7 @@ ghost use Rattle.std.specs.List.{flat_map};
 ghost use Rattle.an_base.specs.Values.{EntryOf};
 ghost use Rattle.net_graph.specs.Forest.{IsComponent, IsForest};
 ghost use Rattle.net_script.specs.Scripts.{IsScript, ScriptOf};
-ghost use Rattle.text_lines.specs.Lines.{line_text};
+ghost use Rattle.common_lines.specs.Lines.{line_text};
 ghost use Rattle.switch_numbering.specs.Numbering.{numbering};
 ghost use Rattle.flow_channels.specs.Layout.{LayoutOf};
 ghost use Rattle.flow_channels.specs.View.{IsOver};
@@ -21,24 +21,24 @@ ghost use Rattle.flow_text.specs.Sends.{entering, homes_of, is_entering, is_loca
 
 use crate::sent::{Home, Sent, count_local, entering, homes_of, is_joined, sends_of};
 use an_base::entry::{Entries, Entry};
-use an_base::memory::OutOfMemory;
 use an_base::numbers::Numbers;
 use an_base::place::Place;
-use an_base::text::Word;
+use common_lines::spelling::push_line;
+use common_values::memory::OutOfMemory;
+use common_values::text::Word;
 use flow_channels::exits::ExitTable;
 use flow_channels::flow::Flow;
 use flow_channels::went::Went;
 use itoa::Buffer;
 use net_graph::forest::trees;
+use net_names::names::Names;
 use net_script::script::Script;
 use row_text::piece::{push_bytes, push_name};
 use std::alloc::Global;
 use switch_numbering::numbering::number;
-use text_lines::names::Names;
-use text_lines::spelling::push_line;
 use topo_graph::graph::Graph;
 
-// The graph of a component, the numbers of its members, and the exits of their tables.
+// The graph of a component, the numbers of its members, and the exits (egress ports) of their tables.
 #[derive(Drop)]
 struct Tabled {
     graph: Graph,
@@ -47,7 +47,7 @@ struct Tabled {
 }
 
 impl Tabled {
-    // Those of a component.
+    // Computes them for a component.
     fn of(alloc: Global, component: &Entries, any: bool) -> Result<Self, OutOfMemory>
         ensures { IfOk result (λ tabled. AreTabled any component.now tabled.graph tabled.numbers tabled.exits) }
     {
@@ -62,7 +62,7 @@ impl Tabled {
     }
 }
 
-// The packets enter, in their order.
+// Lets the packets enter, in their order.
 fn enter_all(flow: &mut Flow, home: &Home, sends: &[Sent])
     requires { (layout : LayoutOf) × IsReady layout sends.now flow.old × MayAllEnter layout.numbers home.now sends.now }
     ensures entered { HasEntered home.now sends.now flow.old flow.new }
@@ -74,7 +74,7 @@ fn enter_all(flow: &mut Flow, home: &Home, sends: &[Sent])
     }
 }
 
-// A flow into which packets that enter a component have come.
+// A flow that the packets in `sends` have entered.
 fn begun(
     alloc: Global,
     graph: &Graph,
@@ -113,7 +113,7 @@ fn spaced_name(
     Ok(word)
 }
 
-// For each number a space and the name of the switch that has it; the name is empty if none has.
+// For each number, a space and the name of the switch that has it; the name is empty if none has it.
 fn names_of(
     alloc: Global,
     script: &Script,
@@ -131,7 +131,7 @@ fn names_of(
     Ok(names)
 }
 
-// Appends the end of the line of a move by a port. There is room for eight bytes.
+// Appends the end of the line of a move by a port. The caller has reserved eight bytes.
 fn push_port(text: &mut Vec<u8>, exit: u8) -> Result<(), OutOfMemory>
     requires { vec_len text.old + 8 ≤ vec_capacity text.old }
     ensures { OnOk result (text.new.items
@@ -153,8 +153,7 @@ fn push_port(text: &mut Vec<u8>, exit: u8) -> Result<(), OutOfMemory>
     push_line(text, &[b"out", digits.format(exit).as_bytes()])
 }
 
-// Sees to it that there is room for so many bytes, and for 23 more: `move `, a packet of at most ten digits,
-// and eight bytes for an exit.
+// Reserves `bytes` and 23 more: `move `, a packet of at most ten digits, and eight bytes for an exit.
 fn make_room(text: &mut Vec<u8>, bytes: usize) -> Result<(), OutOfMemory>
     ensures items { text.new.items ≡ text.old.items }
     ensures room { OnOk result (vec_len text.new + bytes + 23 ≤ vec_capacity text.new) }
@@ -166,7 +165,7 @@ fn make_room(text: &mut Vec<u8>, bytes: usize) -> Result<(), OutOfMemory>
     Ok(())
 }
 
-// Appends the line of a move out of a switch, whose name stands after a space.
+// Appends the line of a move out of a switch, whose name follows a space.
 fn push_out(text: &mut Vec<u8>, packet: u32, name: &[u8], exit: u8) -> Result<(), OutOfMemory>
     ensures { OnOk result ((switch : List ℕ) → name.now ≡ 32 ∷ switch
         → text.new.items ≡ text.old.items ++ line_text (flow_words (Moves packet switch exit))) }
@@ -179,7 +178,7 @@ fn push_out(text: &mut Vec<u8>, packet: u32, name: &[u8], exit: u8) -> Result<()
     push_port(text, exit)
 }
 
-// Appends the line of an arrival at a switch, whose name stands after a space.
+// Appends the line of an arrival at a switch, whose name follows a space.
 fn push_arrival(text: &mut Vec<u8>, packet: u32, name: &[u8]) -> Result<(), OutOfMemory>
     ensures { OnOk result ((switch : List ℕ) → name.now ≡ 32 ∷ switch
         → text.new.items ≡ text.old.items ++ line_text (flow_words (Arrives packet switch))) }
@@ -193,7 +192,7 @@ fn push_arrival(text: &mut Vec<u8>, packet: u32, name: &[u8]) -> Result<(), OutO
     Ok(())
 }
 
-// Appends the line of a move. The switches have these names, by number, each after a space.
+// Appends the line of a move. `names` has the names of the switches, by number, each after a space.
 fn push_went(text: &mut Vec<u8>, names: &[Word], went: Went) -> Result<(), OutOfMemory>
     requires { length names.now ≡ 256 }
     ensures { OnOk result ((script : ScriptOf) (entries : List EntryOf)
@@ -215,14 +214,14 @@ fn push_went(text: &mut Vec<u8>, names: &[Word], went: Went) -> Result<(), OutOf
     }
 }
 
-// Whether a packet went out of a switch.
+// Reports whether a packet left a switch.
 fn is_out(went: Went) -> bool
     ensures { result ≡ is_out went }
 {
     matches!(went, Went::Out { .. })
 }
 
-// Appends the lines of the turns until no packet is left, and adds how many go out of a switch.
+// Appends the lines of the turns until no packet is left, and adds the number of moves out of a switch to `out`.
 fn push_turns(
     text: &mut Vec<u8>,
     out: &mut usize,
@@ -246,7 +245,7 @@ fn push_turns(
     Ok(())
 }
 
-// The same, with the names of the switches of a component.
+// As `push_turns`, for the switches of a component.
 fn push_flow(
     alloc: Global,
     text: &mut Vec<u8>,
@@ -269,7 +268,8 @@ fn push_flow(
     push_turns(text, out, &names, flow)
 }
 
-// Appends the lines of the moves of packets if these are the tables, and adds how many go out of a switch.
+// Appends the lines of the moves of packets under these tables, and adds the number of moves out of a switch to
+// `out`.
 fn push_run(
     alloc: Global,
     text: &mut Vec<u8>,
@@ -299,7 +299,8 @@ fn push_run(
     push_flow(alloc, text, out, script, &graph, &numbers, &mut flow)
 }
 
-// Appends the lines of the moves of those packets that enter a component, and adds how many go out of a switch.
+// Appends the lines of the moves of the packets that enter a component, and adds the number of moves out of a
+// switch to `out`.
 fn push_entering(
     alloc: Global,
     text: &mut Vec<u8>,
@@ -327,7 +328,7 @@ fn push_entering(
     push_run(alloc, text, out, script, tabled, home, those, b)
 }
 
-// The same of those of the packets that enter it.
+// As `push_entering`, for those of `sends` that enter the component.
 fn push_part(
     alloc: Global,
     text: &mut Vec<u8>,
@@ -353,7 +354,7 @@ fn push_part(
     push_entering(alloc, text, out, script, component, &home, &those, b)
 }
 
-// The name of the switch at a place.
+// The name of the switch at an index.
 fn switch_name(names: &Names, switch: Place) -> &[u8]
     ensures { result.now ≡ slice_index_or names.now switch [] }
 {
@@ -364,7 +365,7 @@ fn switch_name(names: &Names, switch: Place) -> &[u8]
     &[]
 }
 
-// Appends the line of a packet that enters nowhere, and answers whether it enters a component.
+// Appends the line of a packet that enters no component, and returns whether it enters one.
 fn push_fate(
     text: &mut Vec<u8>,
     script: &Script,
@@ -388,7 +389,7 @@ fn push_fate(
     Ok(false)
 }
 
-// Appends the lines of the packets that enter nowhere, and answers the others.
+// Appends the lines of the packets that enter no component, and returns the others.
 fn push_fates(
     alloc: Global,
     text: &mut Vec<u8>,
@@ -409,7 +410,7 @@ fn push_fates(
     Ok(those)
 }
 
-// Appends the last line, if so many moves go out of a switch, and so many packets enter a component.
+// Appends the last line: `out` moves left a switch, and `entered` packets entered a component.
 fn push_end(
     text: &mut Vec<u8>,
     sends: &[Sent],
@@ -440,14 +441,14 @@ fn push_end(
     )
 }
 
-// No text, with room for 64 bytes of each packet, of up to 10,000, so that it seldom moves while it grows.
+// An empty text, with 64 bytes reserved for each of up to 10,000 packets, so that it seldom moves while it grows.
 fn empty_text(alloc: Global, sends: &[Sent]) -> Result<Vec<u8>, OutOfMemory>
     ensures { IfOk result (λ text. text.items ≡ []) }
 {
     Ok(Vec::with_capacity(alloc, sends.len().min(10_000) * 64)?)
 }
 
-// The text of the components, with the numbers of their switches, and of what is sent.
+// The text for these components, numbers of their switches, and packets.
 fn text_with(
     alloc: Global,
     script: &Script,
@@ -473,11 +474,16 @@ fn text_with(
     Ok(text)
 }
 
-/// What becomes of the packets that the script sends, with all links up and channels that hold `b`
-/// packets each: for each packet, in the order of the commands, a line if its hosts are at one switch
-/// or in two components; for each component, by rising root, the moves of the packets that enter it,
-/// until all have arrived; last how many moves there were, and how many packets entered, were local
-/// and were not joined. Each line ends in a line feed.
+/// Returns what happens to the packets that the script sends, with all links up and `b` packets per channel.
+///
+/// The lines are: for each packet, in the order of the commands, one line if its hosts are at one switch
+/// or in two components; for each component, in ascending order of root, the moves of the packets that
+/// enter it, until all have arrived; last the number of moves, and the numbers of packets that entered,
+/// were local, and were not joined. Each line ends in a line feed. The caller must pass a `b` of at
+/// least 1.
+///
+/// # Errors
+/// `OutOfMemory` if an allocation fails.
 pub fn flow(alloc: Global, script: &Script, b: u16) -> Result<Vec<u8>, OutOfMemory>
     requires { 1 ≤ b }
     ensures { IfOk result (λ text. IsFlowOf script.now b text.items) }

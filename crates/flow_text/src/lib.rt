@@ -1,9 +1,10 @@
-//! The text of `flow`: what becomes of the packets that a script sends, if channels hold a few each.
+//! autonet, table texts: output of `flow`.
 //!
-//! It stands on packets in finite channels over the tables of a component.
+//! It prints what happens to the packets that a script sends, in channels that hold a few packets each.
 //!
-//! Its contract: the text has the moves of the packets, by component, until each that enters one has arrived, and
-//! no channel ever has more than it holds; and a script has one such text.
+//! It depends on the simulation of packets in finite channels, over the tables of a component. Its contract: the
+//! text has the moves of the packets, by component, until every packet that entered has arrived; no channel ever
+//! holds more packets than its size; and a script has only one such text for each size.
 #![tactic(auto)]
 
 pub mod flow;

@@ -8,9 +8,9 @@ ghost use Rattle.flow_text.specs.Sends.{number_of, numbers_in, sends_of};
 
 use an_base::entry::{Entries, Entry};
 use an_base::event::Event;
-use an_base::memory::OutOfMemory;
 use an_base::numbers::Numbers;
 use an_base::place::Place;
+use common_values::memory::OutOfMemory;
 use net_graph::wiring::{HostOn, SwitchAt};
 use net_script::script::Script;
 use std::alloc::Global;
@@ -20,16 +20,16 @@ use switch_numbering::numbering::number;
 /// A packet that a script sends.
 #[derive(Clone, Copy)]
 pub struct Sent {
-    /// Which one it is, from 1.
+    /// The packet's position among those that the script sends, from 1.
     pub packet: u32,
     /// The switch of the host that sends it.
     pub from: Place,
-    /// The switch of the host to which it goes.
+    /// The switch of the host that it goes to.
     pub to: Place,
 }
 
 impl Sent {
-    /// Whether both hosts are at one switch.
+    /// Reports whether both hosts are at one switch.
     pub fn is_local(&self) -> bool
         ensures { result ≡ is_local self.now }
     {
@@ -44,7 +44,10 @@ fn switch_of(hosts: &[HostOn], host: u16) -> Place
     hosts.get(usize::from(host)).map_or(Place(0), |on| on.s)
 }
 
-/// The packets that the script sends, in order.
+/// Returns the packets that the script sends, in order.
+///
+/// # Errors
+/// `OutOfMemory` if an allocation fails.
 pub fn sends_of(alloc: Global, script: &Script) -> Result<Vec<Sent>, OutOfMemory>
     ensures { IfOk result (λ sends. sends.items ≡ sends_of script.now) }
 {
@@ -62,8 +65,9 @@ pub fn sends_of(alloc: Global, script: &Script) -> Result<Vec<Sent>, OutOfMemory
     Ok(sends)
 }
 
-/// The numbers that the switches have in a component, by the switch's place; 0 for those that are not
-/// there. Contracts see them as a list.
+/// The numbers of all switches in a component, by the switch's index; 0 for those outside it.
+///
+/// Contracts see them as a list.
 #[derive(Drop)]
 pub struct Home {
     numbers: Vec<u8>,
@@ -77,14 +81,14 @@ impl Model for Home {
     ghost view = { λ h. h.numbers.items };
 }
 
-// The place of the entry of the switch with this identifier.
+// The index of the entry of the switch with identifier `uid`.
 fn place_in(entries: &[Entry], uid: u64) -> Option<usize>
     ensures { result ≡ position (λ entry. entry.life.uid == uid) entries.now }
 {
     entries.iter().position(|entry| entry.life.uid == uid)
 }
 
-// The number at a place, 0 if there is none.
+// The number at an index, 0 if there is none.
 fn number_of(numbers: &[u8], place: Option<usize>) -> u8
     ensures { result ≡ number_of numbers.now place }
 {
@@ -94,7 +98,7 @@ fn number_of(numbers: &[u8], place: Option<usize>) -> u8
     }
 }
 
-// The number of a switch in a component, whose members have these numbers.
+// The number of a switch in a component, where `named` has the numbers of its members.
 fn number_in(component: &Entries, named: &Numbers, switch: SwitchAt) -> u8
     requires { named.now ≡ numbering component.now }
     ensures { result ≡ number_in component.now switch }
@@ -103,7 +107,10 @@ fn number_in(component: &Entries, named: &Numbers, switch: SwitchAt) -> u8
 }
 
 impl Home {
-    /// Those in a component.
+    /// Returns the numbers of all switches in `component`.
+    ///
+    /// # Errors
+    /// `OutOfMemory` if an allocation fails.
     pub fn of(
         alloc: Global,
         switches: &[SwitchAt],
@@ -119,14 +126,14 @@ impl Home {
         Ok(Home { numbers })
     }
 
-    /// The number of a switch, 0 if it is not there.
+    /// Returns the number of `switch`, 0 if the component does not have it.
     pub fn number(&self, switch: Place) -> u8
         ensures { result ≡ number_at self.now switch }
     {
         self.numbers.get(usize::from(switch)).copied().unwrap_or(0)
     }
 
-    /// Whether the component has both switches of a packet.
+    /// Reports whether the component has both switches of the packet.
     pub fn has_both(&self, sent: Sent) -> bool
         ensures { result ≡ has_both self.now sent }
     {
@@ -134,7 +141,10 @@ impl Home {
     }
 }
 
-/// The numbers of the switches in each component.
+/// Returns the numbers of all switches in each component.
+///
+/// # Errors
+/// `OutOfMemory` if an allocation fails.
 pub fn homes_of(
     alloc: Global,
     switches: &[SwitchAt],
@@ -149,21 +159,24 @@ pub fn homes_of(
     Ok(homes)
 }
 
-/// Whether some component has both switches of a packet.
+/// Reports whether some component has both switches of the packet.
 pub fn is_joined(homes: &[Home], sent: Sent) -> bool
     ensures { result ≡ is_joined homes.now sent }
 {
     homes.iter().any(|home| home.has_both(sent))
 }
 
-/// How many packets stay at one switch.
+/// Returns the number of packets whose hosts are at one switch.
 pub fn count_local(sends: &[Sent]) -> usize
     ensures { result ≡ count_by is_local sends.now }
 {
     sends.iter().filter(|sent| sent.is_local()).count()
 }
 
-/// The packets that enter a component.
+/// Returns the packets that enter the component of `home`.
+///
+/// # Errors
+/// `OutOfMemory` if an allocation fails.
 pub fn entering(alloc: Global, home: &Home, sends: &[Sent]) -> Result<Vec<Sent>, OutOfMemory>
     ensures { IfOk result (λ those. those.items ≡ entering home.now sends.now) }
 {

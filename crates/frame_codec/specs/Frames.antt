@@ -1,4 +1,4 @@
--- Which values are frames: each number within its range, and each list in its order.
+-- The values that are frames: each number is in its range, and each list in its order.
 use Rattle.std.specs.Prelude.{◌≡◌, ◌≢◌, ℕ, ◌<◌, ◌≤◌, ◌^◌, List, length, All}
 pub use Rattle.an_base.specs.Values.{IsCounted, IsWithin}
 use Rattle.an_base.specs.Values.{LifeId, EndId, Place, PeerAt, EntryOf, PosOf, TopoOf}
@@ -31,7 +31,7 @@ pub record IsLink (link : PeerAt) : Type 0 where
   pub port : IsWithin 1 LAST_PORT link.port
   pub peer : IsEnd link.peer
 
--- no more links than ports, by rising port
+-- at most one link for each port, in ascending order of port
 pub record AreLinks (links : List PeerAt) : Type 0 where
   pub most : length links ≤ PORTS
   pub each : All IsLink links
@@ -43,7 +43,7 @@ pub record IsEntry (entry : EntryOf) : Type 0 where
   pub proposed : IsWithin 1 MOST_NUMBER entry.proposed
   pub links : AreLinks entry.links
 
--- some entries, no more than one network has, by rising life
+-- at least one entry and at most 126, in ascending order of life
 pub record AreEntries (entries : List EntryOf) : Type 0 where
   pub count : IsWithin 1 MOST_SWITCHES (length entries)
   pub each : All IsEntry entries
@@ -54,7 +54,7 @@ pub record IsPos (told : PosOf) : Type 0 where
   pub root : IsLife told.root
   pub level : IsWithin 0 MOST_LEVEL told.level
 
--- entries, and as many different numbers
+-- entries, and a different number for each
 pub record IsTopo (topo : TopoOf) : Type 0 where
   pub entries : AreEntries topo.entries
   pub numbers : AreNumbers topo.numbers
@@ -79,6 +79,6 @@ IsFrame (Ack epoch from to accepted) = (epoch < 2 ^ 64) × IsEnd from × IsEnd t
 IsFrame (Probe from nonce) = IsEnd from × (nonce < 2 ^ 64)
 IsFrame (Reply from to nonce) = IsEnd from × IsEnd to × (nonce < 2 ^ 64)
 
--- no frame has this spelling
+-- no frame has this encoding
 abbrev pub IsNoFrame : List ℕ → Type 0
 IsNoFrame bytes = (frame : Frame) → IsFrame frame → spelling frame ≢ bytes

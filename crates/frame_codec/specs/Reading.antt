@@ -1,5 +1,5 @@
--- Reading from left to right: what stands at the front of bytes, and the bytes after it. Only functions
--- inside this crate cite what stands here, but for `frame_of`, the frame that bytes spell.
+-- Decoding from left to right: a value at the front of bytes, and the bytes after it. Except for `frame_of`, the frame
+-- that bytes encode, only functions inside this crate use these definitions.
 use Rattle.std.specs.Prelude.{◌≡◌, ◌==◌, ◌&&◌, ℕ, zero, suc, ◌+◌, List, [], ◌∷◌, ◌++◌, length, take, drop}
 use Rattle.std.specs.Prelude.{Option, Some, None, Bool, true, not, nat_lt, if◌then◌else◌, ⊤}
 use Rattle.std.specs.List.{list_any}
@@ -18,7 +18,7 @@ use Rattle.an_base.specs.declared.frame.Frame.TheVariants.{Carry, Ack, Probe, Re
 use Rattle.frame_codec.specs.declared.reading.DecodeRefusal.{DecodeRefusal}
 use Rattle.frame_codec.specs.declared.reading.DecodeRefusal.TheVariants.{NotAFrame, OutOfMemory}
 
--- a value from the front of bytes, and the bytes after it
+-- a value at the front of bytes, and the bytes after it
 abbrev pub At : Type 0 → Type 0
 At A = List ℕ → Option (A × List ℕ)
 
@@ -27,14 +27,14 @@ abbrev pub ◌>>=◌ : {A B : Type 0} → Option A → (A → Option B) → Opti
 (Some value) >>= next = next value
 None >>= next = None
 
--- one value after the other
+-- one value after another
 abbrev pub both : {A B : Type 0} → At A → At B → At (A × B)
 both first second bytes = do
   one ← first bytes
   other ← second one.1
   Some ((one.0, other.0), other.1)
 
--- what is made of a value
+-- a value that `make` computes from the one read
 abbrev pub made : {A B : Type 0} → (A → B) → At A → At B
 made make at bytes = do
   value ← at bytes
@@ -46,7 +46,7 @@ tested passes at bytes = do
   value ← at bytes
   if passes value.0 then Some value else None
 
--- So many values: each is read after what is to be known of the one before it, and the first after `known`.
+-- a list of given length; each value is read with what is known from the one before it, and the first with `known`
 unfoldable pub list_at : {A S : Type 0} → (S → At A) → (A → S) → S → ℕ → At (List A)
 list_at one next known zero bytes = Some ([], bytes)
 list_at one next known (suc more) bytes = do
@@ -54,26 +54,28 @@ list_at one next known (suc more) bytes = do
   others ← list_at one next (next first.0) more first.1
   Some (first.0 ∷ others.0, others.1)
 
--- what a call read from the bytes old, as view sees it, if it left the bytes new
+-- the call read what `at` reads from the bytes `old`, as `view` sees it, and left the bytes `new`; it returns
+-- `NotAFrame` only if `at` reads nothing
 abbrev pub ReadsAs : {A B : Type 0} → (A → B) → At B → Result A DecodeRefusal → List ℕ → List ℕ → Type 0
 ReadsAs view at (Ok value) old new = at old ≡ Some (view value, new)
 ReadsAs view at (Err NotAFrame) old new = at old ≡ None
 ReadsAs view at (Err OutOfMemory) old new = ⊤
 
--- the same, of the value as it is
+-- the call read what `at` reads from the bytes `old`, and left the bytes `new`
 abbrev pub Reads : {A : Type 0} → At A → Result A DecodeRefusal → List ℕ → List ℕ → Type 0
 Reads at result old new = ReadsAs (λ value. value) at result old new
 
--- a byte; and a number of so many bytes, the highest first
+-- a byte
 abbrev pub byte_at : At ℕ
 byte_at [] = None
 byte_at (byte ∷ rest) = Some (byte, rest)
 
+-- a number of `count` bytes, the highest first
 unfoldable pub number_at : ℕ → At ℕ
 number_at count bytes =
     if nat_lt (length bytes) count then None else Some (big_number count bytes, drop count bytes)
 
--- a byte from least to most
+-- a byte from `least` to `most`
 abbrev pub within_at : ℕ → ℕ → At ℕ
 within_at least most = tested (λ byte. not (nat_lt byte least) && not (nat_lt most byte)) byte_at
 
@@ -85,11 +87,12 @@ counted_at = tested (λ number. not (nat_lt number 1)) (number_at 4)
 abbrev pub truth_at : At Bool
 truth_at = made (λ byte. byte == 1) (within_at 0 1)
 
--- `life_of` makes a life of its parts, and `life_at` reads it, in the order in which it is spelled; so it is
--- with each kind of value below
+-- a life from its parts; for each kind of value below, `.._of` makes a value of its parts, and `.._at` reads one, in
+-- the order of its encoding
 abbrev pub life_of : ℕ × ℕ → LifeId
 life_of parts = record { uid = parts.0; boot = parts.1 }
 
+-- a life
 unfoldable pub life_at : At LifeId
 life_at = made life_of (both (number_at 6) counted_at)
 
@@ -109,11 +112,11 @@ position_at =
 abbrev pub link_of : ℕ × EndId → PeerAt
 link_of parts = record { port = parts.0; peer = parts.1 }
 
--- a link whose port is above this one
+-- a link whose port is above `above`
 unfoldable pub link_above_at : ℕ → At PeerAt
 link_above_at above = made link_of (both (within_at (above + 1) LAST_PORT) end_at)
 
--- so many links by rising port, all above this one
+-- links in ascending order of port, all above the port given
 abbrev pub links_from : ℕ → ℕ → At (List PeerAt)
 links_from = list_at link_above_at (λ link. link.port)
 
@@ -128,16 +131,16 @@ entry_of parts = record { life = parts.0.0.0; position = parts.0.0.1; proposed =
 unfoldable pub entry_at : At EntryOf
 entry_at = made entry_of (both (both (both life_at position_at) (within_at 1 MOST_NUMBER)) links_at)
 
--- whether the life is above this one, if there is one
+-- whether the life is above `above`, if there is one
 abbrev pub is_above : Option LifeId → LifeId → Bool
 is_above None life = true
 is_above (Some above) life = is_lt (life_cmp above life)
 
--- an entry whose life is above this one
+-- an entry whose life is above `above`, if there is one
 unfoldable pub entry_above_at : Option LifeId → At EntryOf
 entry_above_at above = tested (λ entry. is_above above entry.life) entry_at
 
--- so many entries by rising life, all above this one
+-- entries in ascending order of life, all above the life given, if there is one
 abbrev pub entries_from : Option LifeId → ℕ → At (List EntryOf)
 entries_from = list_at entry_above_at (λ entry. Some entry.life)
 
@@ -146,13 +149,13 @@ entries_at bytes = do
   count ← within_at 1 MOST_NUMBER bytes
   entries_from None count.0 count.1
 
--- whether a number is one that there is and differs from those before it
+-- whether a number is in its range and differs from those before it
 abbrev pub is_new : List ℕ → ℕ → Bool
 is_new before number =
     not (nat_lt number 1) && not (nat_lt MOST_NUMBER number)
     && not (list_any (λ other. other == number) before)
 
--- so of each number of a list in turn
+-- whether each number of a list is in its range and differs from those before it
 unfoldable pub are_new : List ℕ → List ℕ → Bool
 are_new before [] = true
 are_new before (number ∷ numbers) = is_new before number && are_new (before ++ number ∷ []) numbers
@@ -160,7 +163,7 @@ are_new before (number ∷ numbers) = is_new before number && are_new (before ++
 abbrev pub are_numbers : List ℕ → Bool
 are_numbers numbers = are_new [] numbers
 
--- so many bytes
+-- the next `count` bytes
 abbrev pub bytes_at : ℕ → At (List ℕ)
 bytes_at count bytes = if nat_lt (length bytes) count then None else Some (take count bytes, drop count bytes)
 
@@ -188,7 +191,7 @@ topo_at bytes = do
   numbers ← numbers_at (length entries.0) entries.1
   Some (topo_of entries.0 numbers.0, numbers.1)
 
--- what a body of this kind holds
+-- the content of a body of this kind
 abbrev pub body_of : ℕ → At Body
 body_of kind bytes =
     if kind == 1 then made Pos pos_at bytes else
@@ -231,7 +234,7 @@ reply_of parts = Reply parts.0.0 parts.0.1 parts.1
 unfoldable pub reply_at : At Frame
 reply_at = made reply_of (both (both end_at end_at) (number_at 8))
 
--- what a frame of this kind holds
+-- the content of a frame of this kind
 abbrev pub frame_of_kind : ℕ → At Frame
 frame_of_kind kind bytes =
     if kind == 1 then made Carry carry_at bytes else
@@ -243,13 +246,13 @@ frame_of_kind kind bytes =
 unfoldable pub frame_at : At Frame
 frame_at bytes = byte_at bytes >>= λ kind. frame_of_kind kind.0 kind.1
 
--- the frame that all of the bytes spell, if they spell one
+-- the frame that `bytes` encode, if they encode one
 unfoldable pub frame_of : List ℕ → Option Frame
 frame_of bytes = do
   frame ← frame_at bytes
   if length frame.1 == 0 then Some frame.0 else None
 
--- what a call made of all of the bytes
+-- the result of decoding all of `bytes`
 abbrev pub GivesFrame : List ℕ → Result Frame DecodeRefusal → Type 0
 GivesFrame bytes (Ok frame) = frame_of bytes ≡ Some frame
 GivesFrame bytes (Err NotAFrame) = frame_of bytes ≡ None

@@ -1,4 +1,4 @@
--- The one spelling of each frame. Numbers stand highest byte first.
+-- The one encoding (spelling) of each frame. Numbers start with their highest byte.
 use Rattle.std.specs.Prelude.{ℕ, Bool, true, false, List, [], ◌∷◌, ◌++◌, length}
 use Rattle.std.specs.List.{flat_map}
 use Rattle.byteorder.specs.Endian.{big_bytes}
@@ -10,7 +10,7 @@ use Rattle.an_base.specs.declared.frame.Frame.{Frame}
 use Rattle.an_base.specs.declared.frame.Frame.TheVariants.{Carry, Ack, Probe, Reply}
 use Rattle.frame_codec.specs.declared.writing.CarryHead.{CarryHead}
 
--- so many of the lowest bytes of a number, highest first
+-- the `count` lowest bytes of a number, highest first
 unfoldable pub number_bytes : ℕ → ℕ → List ℕ
 number_bytes count number = big_bytes count number
 
@@ -62,14 +62,14 @@ answer_bytes answer = number_bytes 4 answer.version ++ truth_bytes answer.to_par
 abbrev pub topo_bytes : TopoOf → List ℕ
 topo_bytes topo = entries_bytes topo.entries ++ topo.numbers
 
--- a kind byte, and what this kind holds
+-- a kind byte, and the content of this kind
 abbrev pub body_bytes : Body → List ℕ
 body_bytes (Pos told) = 1 ∷ pos_bytes told
 body_bytes (Answer answer) = 2 ∷ answer_bytes answer
 body_bytes (Stable entries) = 3 ∷ entries_bytes entries
 body_bytes (Topo topo) = 4 ∷ topo_bytes topo
 
--- a body with what stands before it
+-- a body with what precedes it
 abbrev pub carried : CarryHead → Body → CarryOf
 carried head body =
     record { epoch = head.epoch; from = head.from; to = head.to; number = head.k; body = body }
@@ -80,7 +80,7 @@ carry_bytes carry =
     number_bytes 8 carry.epoch ++ end_bytes carry.from ++ end_bytes carry.to
     ++ number_bytes 4 carry.number ++ body_bytes carry.body
 
--- a kind byte, and what this kind holds; nothing follows
+-- a kind byte, and the content of this kind; nothing follows
 abbrev pub spelling : Frame → List ℕ
 spelling (Carry carry) = 1 ∷ carry_bytes carry
 spelling (Ack epoch from to accepted) =

@@ -1,7 +1,9 @@
-//! Frames as bytes: each frame has one spelling, which is written and read here.
+//! autonet, switch: control frames as bytes.
 //!
-//! It stands on an_base, frame_region and byteorder. Its contract: what is written is the spelling of
-//! the frame; what is read is the frame that has this spelling, and a refusal says that none has it.
+//! Each frame has exactly one encoding (called its spelling in contracts). This crate writes and reads it.
+//!
+//! It depends on `frame_region` for the buffer of a frame. Its contract: the encoder writes the encoding of the
+//! frame; the decoder returns the frame that the bytes encode, and rejects bytes only if they encode none.
 #![tactic(auto)]
 
 pub mod law;

@@ -1,4 +1,4 @@
-//! Reading from the left, part by part. Each part refuses what no frame has there, so only the end is left to check.
+//! Decodes from the left, part by part. Each part rejects what no frame has there, so only the end remains to check.
 
 ghost use Rattle.std.specs.Prelude.{◌≡◌, ◌==◌, ◌≤◌, None, ◌<◌, ◌^◌, ◌+◌, ◌++◌, List, ℕ, length, IfOk};
 ghost use Rattle.an_base.specs.declared.limits.TheConstants.{LAST_PORT, MOST_NUMBER};
@@ -22,7 +22,7 @@ use an_base::position::Position;
 use std::alloc::Global;
 use std::marker::Model;
 
-// An entry over which others are read.
+// An entry that the ones read overwrite.
 fn no_entry() -> Entry {
     let life = Life::new(0, 1);
     Entry {
@@ -48,14 +48,14 @@ impl<'a> Model for Reader<'a> {
 }
 
 impl<'a> Reader<'a> {
-    /// All of the bytes are still to be read.
+    /// Creates a reader of all of `bytes`.
     pub fn new(bytes: &'a [u8]) -> Self
         ensures { result ≡ bytes.now }
     {
         Reader { rest: bytes }
     }
 
-    /// Whether all bytes were read.
+    /// Reports whether all bytes were read.
     pub fn is_empty(&self) -> bool
         ensures { result ≡ (length self.now == 0) }
     {
@@ -111,7 +111,7 @@ impl<'a> Reader<'a> {
         Ok(number)
     }
 
-    // A byte from least to most.
+    // A byte from `least` to `most`.
     fn within(&mut self, least: u8, most: u8) -> Result<u8, DecodeRefusal>
         ensures reads { Reads (within_at least most) result self.old self.new }
         ensures within { IfOk result (IsWithin least most) }
@@ -174,7 +174,7 @@ impl<'a> Reader<'a> {
         Ok(Position::new(root, level, parent, port))
     }
 
-    // A link whose port is above this one.
+    // A link whose port is above `above`.
     #[tactic(auto, unfolding(crate::specs::Reading::link_above_at))]
     fn link(&mut self, above: u8) -> Result<PortLink, DecodeRefusal>
         requires { above ≤ LAST_PORT }
@@ -186,7 +186,7 @@ impl<'a> Reader<'a> {
         Ok(PortLink::new(port, peer))
     }
 
-    // Sets links to so many by rising port.
+    // Sets `links` to the next `count` links, in ascending order of port.
     fn links_of(&mut self, count: u8, links: &mut Links) -> Result<(), DecodeRefusal>
         requires { count ≤ LAST_PORT }
         ensures { ReadsAs (λ _. links.new) (links_from 0 count) result self.old self.new }
@@ -221,7 +221,7 @@ impl<'a> Reader<'a> {
         self.links(&mut entry.links)
     }
 
-    // Sets an entry to the next one, whose life is above this one, if there is one.
+    // Sets an entry to the next one, whose life must be above `above`, if there is one.
     #[tactic(auto, unfolding(crate::specs::Reading::entry_above_at))]
     fn entry_above(&mut self, above: Option<Life>, entry: &mut Entry) -> Result<(), DecodeRefusal>
         ensures { ReadsAs (λ _. entry.new) (entry_above_at above) result self.old self.new }
@@ -235,7 +235,7 @@ impl<'a> Reader<'a> {
         Ok(())
     }
 
-    // So many entries by rising life.
+    // The next `count` entries, in ascending order of life.
     fn entries_of(&mut self, alloc: Global, count: u8) -> Result<Vec<Entry>, DecodeRefusal>
         ensures { ReadsAs (λ v. v.items) (entries_from None count) result self.old self.new }
     {
@@ -365,7 +365,10 @@ impl<'a> Reader<'a> {
         Ok(Frame::Reply { from, to, nonce })
     }
 
-    /// A frame, after which bytes may follow.
+    /// Reads a frame, after which bytes can follow.
+    ///
+    /// # Errors
+    /// `NotAFrame` if no frame starts there; or `OutOfMemory`, which says nothing about the bytes.
     #[tactic(auto, unfolding(crate::specs::Reading::frame_at))]
     pub fn frame(&mut self, alloc: Global) -> Result<Frame, DecodeRefusal>
         ensures { Reads frame_at result self.old self.new }

@@ -1,4 +1,4 @@
-//! Bytes that are one frame and nothing more, and why bytes are none.
+//! Decodes bytes that are exactly one frame, or says why they are not.
 
 ghost use Rattle.std.specs.Prelude.{◌≡◌, IfOk, Err};
 ghost use Rattle.frame_codec.specs.Spelling.{spelling};
@@ -10,12 +10,12 @@ use crate::reader::Reader;
 use an_base::frame::Frame;
 use std::alloc::{AllocError, AllocFailed, Global};
 
-/// Why bytes were not decoded.
+/// The reason why bytes were not decoded.
 #[derive(Clone, Copy, Debug, PartialEq, Eq)]
 pub enum DecodeRefusal {
-    /// No frame has this spelling.
+    /// No frame has this encoding.
     NotAFrame,
-    /// No memory was found.
+    /// An allocation failed.
     OutOfMemory,
 }
 
@@ -35,7 +35,7 @@ impl<T: Drop> From<AllocFailed<T>> for DecodeRefusal {
     }
 }
 
-// The frame that the bytes spell, by reading from the left.
+// The frame that the bytes encode, read from the left.
 #[tactic(auto, unfolding(crate::specs::Reading::frame_of))]
 fn read(alloc: Global, bytes: &[u8]) -> Result<Frame, DecodeRefusal>
     ensures { GivesFrame bytes.now result }
@@ -48,8 +48,10 @@ fn read(alloc: Global, bytes: &[u8]) -> Result<Frame, DecodeRefusal>
     Ok(frame)
 }
 
-/// The frame that has this spelling. `NotAFrame` says that no frame has it; `OutOfMemory` says nothing of the
-/// bytes.
+/// Returns the frame that `bytes` encode.
+///
+/// # Errors
+/// `NotAFrame` if no frame has this encoding; or `OutOfMemory`, which says nothing about the bytes.
 pub fn decode(alloc: Global, bytes: &[u8]) -> Result<Frame, DecodeRefusal>
     ensures found { IfOk result (λ f. IsFrame f × (bytes.now ≡ spelling f)) }
     ensures refused { result ≡ Err NotAFrame → IsNoFrame bytes.now }

@@ -1,4 +1,4 @@
-//! Frames as bytes. Kinds and counts stand before what they tell of, and numbers begin with their highest byte.
+//! Encodes frames. Kinds and counts precede what they describe, and numbers start with their highest byte.
 
 ghost use Rattle.std.specs.Prelude.{◌≡◌, ◌≤◌, ◌<◌, ◌^◌, ◌+◌, ◌*◌, [], ◌∷◌, ◌++◌, length, All};
 ghost use Rattle.std.specs.List.{flat_map};
@@ -99,7 +99,7 @@ fn put_link(out: &mut FrameBuf, link: &PortLink)
     put_end(out, link.peer());
 }
 
-// The links after their count.
+// Appends the links that follow their count.
 fn put_each_link(out: &mut FrameBuf, links: &[PortLink])
     requires { length out.old + 12 * length links.now ≤ MOST_FRAME }
     ensures spelled { out.new ≡ out.old ++ flat_map link_bytes links.now }
@@ -134,7 +134,7 @@ fn put_entry(out: &mut FrameBuf, entry: &Entry)
     put_links(out, &entry.links);
 }
 
-// The entries after their count.
+// Appends the entries that follow their count.
 fn put_each_entry(out: &mut FrameBuf, entries: &[Entry])
     requires { length out.old + 178 * length entries.now ≤ MOST_FRAME }
     ensures spelled { out.new ≡ out.old ++ flat_map entry_bytes entries.now }
@@ -224,7 +224,7 @@ fn put_carry(out: &mut FrameBuf, head: &CarryHead, body: &Body)
     put_body(out, body);
 }
 
-// The kind byte alone.
+// Sets the buffer to the kind byte.
 fn begin(out: &mut FrameBuf, kind: u8)
     ensures { out.new ≡ kind ∷ [] }
 {
@@ -232,7 +232,7 @@ fn begin(out: &mut FrameBuf, kind: u8)
     out.add_few(&[kind]);
 }
 
-/// What stands before the body in the frame that carries it.
+/// What precedes the body in a frame that carries it.
 #[derive(Clone, Copy)]
 pub struct CarryHead {
     /// The epoch of the session.
@@ -245,8 +245,9 @@ pub struct CarryHead {
     pub k: u32,
 }
 
-/// Sets `out` to the spelling of the frame that carries this body, without taking memory. The body
-/// stays where it is.
+/// Sets `out` to the encoding of the frame that carries `body`, without allocating or moving the body.
+///
+/// The number in `head` must be at least 1.
 pub fn encode_carry(head: &CarryHead, body: &Body, out: &mut FrameBuf)
     requires { 1 ≤ head.now.k }
     ensures spelled { out.new ≡ spelling (Carry (carried head.now body.now)) }
@@ -256,8 +257,9 @@ pub fn encode_carry(head: &CarryHead, body: &Body, out: &mut FrameBuf)
     put_carry(out, head, body);
 }
 
-/// Sets `out` to the spelling of the frame, without taking memory. Each value of the type is within
-/// the ranges of a frame.
+/// Sets `out` to the encoding of `frame`, without allocating.
+///
+/// Each value of the type is in the ranges of a frame.
 pub fn encode(frame: &Frame, out: &mut FrameBuf)
     ensures spelled { out.new ≡ spelling frame.now }
     ensures within { IsFrame frame.now }

@@ -1,10 +1,10 @@
--- How many blocks bytes need.
+-- The number of blocks that bytes need.
 use Rattle.std.specs.Prelude.{ℕ, ◌+◌, ◌/◌, List, length}
 
--- how many blocks of 64 bytes so many bytes need
+-- the number of blocks of 64 bytes that `len` bytes need
 abbrev pub needed : ℕ → ℕ
 needed len = (len + 63) / 64
 
--- how many blocks bytes need
+-- the number of blocks that `bytes` need
 abbrev pub blocks_of : List ℕ → ℕ
 blocks_of bytes = needed (length bytes)

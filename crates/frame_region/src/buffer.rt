@@ -1,16 +1,16 @@
-//! One frame outside a region: its buffer is filled anew for each, in the same memory.
+//! One frame outside a region, in a buffer whose memory is reused for each frame.
 
 ghost use Rattle.std.specs.Prelude.{◌≡◌, ◌+◌, ◌≤◌, ◌++◌, [], length, IfOk};
 ghost use Rattle.frame_region.specs.declared.buffer.TheConstants.{MOST_FRAME};
 
-use an_base::memory::OutOfMemory;
+use common_values::memory::OutOfMemory;
 use std::alloc::Global;
 use std::marker::Model;
 
-/// The most bytes of a frame.
+/// The largest length of a frame in bytes.
 pub const MOST_FRAME: usize = 22_591;
 
-/// The bytes of one frame, at most 22,591, in memory that is taken once.
+/// The bytes of one frame, at most 22,591, in memory that is allocated once.
 #[derive(Drop)]
 pub struct FrameBuf {
     bytes: Vec<u8>,
@@ -28,7 +28,10 @@ impl Model for FrameBuf {
 }
 
 impl FrameBuf {
-    /// No bytes, and memory for the most that a frame has.
+    /// Creates an empty buffer, with memory for the longest frame.
+    ///
+    /// # Errors
+    /// `OutOfMemory` if the allocation fails.
     pub fn new(alloc: Global) -> Result<Self, OutOfMemory>
         ensures { IfOk result (λ buffer. buffer ≡ []) }
     {
@@ -37,7 +40,7 @@ impl FrameBuf {
         })
     }
 
-    /// The bytes.
+    /// Returns the bytes.
     pub fn bytes(&self) -> &[u8]
         ensures all { result.now ≡ self.now }
         ensures most { length self.now ≤ MOST_FRAME }
@@ -45,14 +48,14 @@ impl FrameBuf {
         &self.bytes
     }
 
-    /// Gives up the bytes, and keeps the memory.
+    /// Removes the bytes, and keeps the memory.
     pub fn clear(&mut self)
         ensures { self.new ≡ [] }
     {
         self.bytes.clear();
     }
 
-    /// Adds bytes at the end, without taking memory.
+    /// Appends `bytes` without allocating. Together with those before they must be at most `MOST_FRAME`.
     pub fn add(&mut self, bytes: &[u8])
         requires { length self.old + length bytes.now ≤ MOST_FRAME }
         ensures { self.new ≡ self.old ++ bytes.now }
@@ -60,7 +63,9 @@ impl FrameBuf {
         let _added = self.bytes.extend_from_slice(bytes);
     }
 
-    /// Adds bytes at the end, without taking memory, one by one: for a few this is quicker than `add`.
+    /// Appends `bytes` one by one, without allocating; for a few bytes this is faster than `add`.
+    ///
+    /// Together with those before they must be at most `MOST_FRAME`.
     pub fn add_few(&mut self, bytes: &[u8])
         requires { length self.old + length bytes.now ≤ MOST_FRAME }
         ensures { self.new ≡ self.old ++ bytes.now }

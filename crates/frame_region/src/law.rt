@@ -1,4 +1,4 @@
-//! That pieces lose nothing of the bytes. No function here has code.
+//! A theorem: pieces lose nothing of the bytes. No function here has code.
 
 ghost use Rattle.std.specs.Prelude.{◌≡◌, ℕ, List};
 ghost use Rattle.std.specs.List.{flat_map, range_with_len};

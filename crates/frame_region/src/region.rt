@@ -1,4 +1,4 @@
-//! Chains of blocks, of which the free ones make one. A new region writes none of them.
+//! Chains of blocks; the free blocks form one chain. Creating a region writes to none of them.
 
 ghost use Rattle.std.specs.Prelude.{◌≡◌, ◌≢◌, min, ◌+◌, ◌-◌, ◌*◌, ◌<◌, ◌≤◌, ◌++◌, ℕ, length, take, replicate};
 ghost use Rattle.std.specs.Prelude.{None, IfOk, IfErr, OnOk, OnErr, IsSome, slice_index_or, vec_capacity};
@@ -10,18 +10,19 @@ ghost use Rattle.frame_region.specs.Inside.{IsWritten};
 ghost use Rattle.frame_region.specs.Regions.{bytes_at, held_at, piece_of, with_put, without};
 
 use crate::buffer::FrameBuf;
-use an_base::memory::OutOfMemory;
+use common_values::memory::OutOfMemory;
 use std::alloc::Global;
 use std::marker::Model;
 
-/// The bytes of a block.
+/// The number of bytes in a block.
 pub const BLOCK: usize = 64;
 
-/// The most blocks of a region.
+/// The largest number of blocks in a region.
 pub const MOST_BLOCKS: u32 = 1_048_576;
 
-/// What names bytes that were put in a region, 1 to 22,591 of them. It cannot be copied. The bytes
-/// that it names stay until it is given back; if it is dropped, until the region is dropped.
+/// The handle of bytes in a region, 1 to 22,591 of them. It cannot be copied.
+///
+/// The bytes stay until the slip is given back or, if it is dropped, until the region is dropped.
 #[derive(Drop)]
 pub struct Slip {
     first: u32,
@@ -36,8 +37,9 @@ impl Model for Slip {
 }
 
 impl Slip {
-    /// Its number: two slips of one region that both name bytes have different numbers, each below the
-    /// number of the region's blocks.
+    /// Returns the slip's number, which is below the number of the region's blocks.
+    ///
+    /// Two slips of one region that both have bytes have different numbers.
     pub fn number(&self) -> u32
         ensures { result ≡ self.now }
     {
@@ -45,19 +47,20 @@ impl Slip {
     }
 }
 
-/// There are too few free blocks.
+/// Fewer blocks are free than the bytes need.
 #[derive(Clone, Copy, Debug, PartialEq, Eq)]
 pub struct NoRoom {
-    /// How many blocks the bytes need, 1 to 353.
+    /// The number of blocks that the bytes need, 1 to 353.
     pub need: u32,
-    /// How many are free.
+    /// The number of free blocks.
     pub free: u32,
 }
 
-/// Blocks of 64 bytes, in memory that is taken at once. Each names the next block of its chain; as long
-/// as it names none, that is the block of the next number. The first block of a chain has the length of
-/// the byte string in it. What belongs to a block is first written when that block, or one of a higher
-/// number, is first used.
+/// Blocks of 64 bytes, in memory that is allocated at once.
+///
+/// Each block names the next one of its chain; as long as it names none, that is the block with the next
+/// number. The first block of a chain has the length of the byte string. What belongs to a block is first
+/// written when that block, or one with a higher number, is first used.
 #[derive(Drop)]
 pub struct Region {
     bytes: Vec<u8>,
@@ -81,7 +84,7 @@ impl Model for Region {
         × (r.blocks ≤ vec_capacity r.lens) };
 }
 
-// How many blocks so many bytes need.
+// The number of blocks that `len` bytes need.
 fn needed(len: usize) -> u32
     requires { len ≤ MOST_FRAME }
     ensures { result ≡ needed len }
@@ -89,7 +92,7 @@ fn needed(len: usize) -> u32
     ((len + 63) / BLOCK) as u32
 }
 
-// So many values are there then, without taking memory: those that were not are this one.
+// Makes the list at least `end` long, without allocating, by appending `value`.
 fn reach<T: Copy>(list: &mut Vec<T>, end: usize, value: T)
     requires { end ≤ vec_capacity list.old }
     ensures end { end ≤ length list.new.items }
@@ -119,7 +122,7 @@ fn write(bytes: &mut Vec<u8>, block: u32, piece: &[u8])
     bytes[start..start + piece.len()].copy_from_slice(piece);
 }
 
-// Piece number k, from 0, of a frame: 64 bytes, the last one fewer.
+// Piece `k`, from 0, of a frame: 64 bytes, or fewer for the last one.
 fn piece_of(frame: &[u8], k: usize) -> &[u8]
     requires { 64 * k < length frame.now }
     ensures length { length result.now ≡ min 64 (length frame.now - 64 * k) }
@@ -130,7 +133,7 @@ fn piece_of(frame: &[u8], k: usize) -> &[u8]
     &rest[..rest.len().min(BLOCK)]
 }
 
-// The front of a block: of so many bytes that are left, those that lie in it.
+// The front of a block: those of the `left` remaining bytes that lie in it.
 fn front_of(bytes: &[u8], block: u32, left: usize) -> &[u8]
     requires { 64 * block + 64 ≤ length bytes.now }
     ensures length { length result.now ≡ min 64 left }
@@ -141,7 +144,7 @@ fn front_of(bytes: &[u8], block: u32, left: usize) -> &[u8]
     &bytes[start..start + left.min(BLOCK)]
 }
 
-// The block that follows one: that of the next number as long as it names none.
+// The block that follows `block`: the one with the next number as long as it names none.
 fn after(next: &[u32], block: u32) -> u32
     requires { block < MOST_BLOCKS }
     ensures { result ≡ after next.now block }
@@ -152,7 +155,7 @@ fn after(next: &[u32], block: u32) -> u32
     }
 }
 
-// The block of a chain after so many.
+// The block of a chain after `count` others.
 fn block_after(next: &[u32], first: u32, count: u32) -> u32
     requires { (k : ℕ) → k < count → block next.now first k < MOST_BLOCKS }
     ensures { result ≡ block next.now first count }
@@ -164,7 +167,7 @@ fn block_after(next: &[u32], first: u32, count: u32) -> u32
     block
 }
 
-// Writes a frame into the blocks of a chain, and answers the block after them.
+// Writes a frame into the blocks of a chain, and returns the block after them.
 fn fill(bytes: &mut Vec<u8>, next: &[u32], first: u32, frame: &[u8]) -> u32
     requires most { length frame.now ≤ MOST_FRAME }
     requires within { (k : ℕ) → k < needed (length frame.now) → block next.now first k < MOST_BLOCKS }
@@ -184,7 +187,7 @@ fn fill(bytes: &mut Vec<u8>, next: &[u32], first: u32, frame: &[u8]) -> u32
     block
 }
 
-// Sets the buffer to so many bytes of a chain.
+// Sets the buffer to the first `len` bytes of a chain.
 fn gather(bytes: &[u8], next: &[u32], first: u32, len: usize, out: &mut FrameBuf)
     requires most { len ≤ MOST_FRAME }
     requires within { (k : ℕ) → k < needed len → block next.now first k < MOST_BLOCKS }
@@ -199,7 +202,7 @@ fn gather(bytes: &[u8], next: &[u32], first: u32, len: usize, out: &mut FrameBuf
     }
 }
 
-// All blocks up to one name those that follow them then, without taking memory.
+// Makes all blocks up to `last` name the blocks that follow them then, without allocating.
 fn name_following(next: &mut Vec<u32>, last: u32)
     requires room { last < vec_capacity next.old }
     requires most { last < MOST_BLOCKS }
@@ -213,7 +216,10 @@ fn name_following(next: &mut Vec<u32>, last: u32)
 }
 
 impl Region {
-    /// So many blocks, at most 1,048,576, all of them free.
+    /// Creates a region of `blocks` free blocks, at most 1,048,576.
+    ///
+    /// # Errors
+    /// `OutOfMemory` if the allocation fails.
     pub fn new(alloc: Global, blocks: u32) -> Result<Self, OutOfMemory>
         requires { blocks ≤ MOST_BLOCKS }
         ensures { IfOk result (λ region. region ≡ record { held = replicate blocks None; free = blocks }) }
@@ -228,7 +234,7 @@ impl Region {
         })
     }
 
-    /// How many blocks are free.
+    /// Returns the number of free blocks.
     pub fn free_blocks(&self) -> u32
         ensures free { result ≡ self.now.free }
         ensures most { self.now.free ≤ length self.now.held }
@@ -236,8 +242,12 @@ impl Region {
         self.free
     }
 
-    /// Puts bytes, 1 to 22,591, without taking memory. They need a block for each 64 of them. There is
-    /// no room exactly if fewer blocks are free, and then nothing changes.
+    /// Stores `bytes` (1 to 22,591 of them) without allocating, and returns their slip.
+    ///
+    /// They need one block for each 64 bytes, and one for any remaining bytes.
+    ///
+    /// # Errors
+    /// `NoRoom` if and only if fewer blocks are free than the bytes need. The region is then unchanged.
     pub fn put(&mut self, bytes: &[u8]) -> Result<Slip, NoRoom>
         requires least { 1 ≤ length bytes.now }
         requires most { length bytes.now ≤ MOST_FRAME }
@@ -264,7 +274,7 @@ impl Region {
         Ok(Slip { first })
     }
 
-    /// How many bytes are under a slip that the region has, 1 to 22,591.
+    /// Returns the number of bytes that `slip` has, 1 to 22,591. The slip must be one of this region.
     pub fn len(&self, slip: &Slip) -> usize
         requires { IsSome (held_at self.now slip.now) }
         ensures len { result ≡ length (bytes_at self.now slip.now) }
@@ -274,8 +284,9 @@ impl Region {
         usize::from(self.lens[slip.first as usize])
     }
 
-    /// Piece number i, from 0, of the bytes under a slip that the region has: 64 of them, the last
-    /// piece fewer. The pieces in order are the bytes.
+    /// Returns piece `i`, from 0, of the bytes that `slip` has: 64 bytes, or fewer for the last piece.
+    ///
+    /// The pieces in order are the bytes. The slip must be one of this region, and have this piece.
     pub fn piece(&self, slip: &Slip, i: usize) -> &[u8]
         requires has { IsSome (held_at self.now slip.now) }
         requires i { i < blocks_of (bytes_at self.now slip.now) }
@@ -286,7 +297,7 @@ impl Region {
         front_of(&self.bytes, block, left)
     }
 
-    /// Sets the buffer to the bytes under a slip that the region has; they stay there.
+    /// Copies the bytes that `slip` has to `out`, and keeps them. The slip must be one of this region.
     pub fn read(&self, slip: &Slip, out: &mut FrameBuf)
         requires { IsSome (held_at self.now slip.now) }
         ensures { out.new ≡ bytes_at self.now slip.now }
@@ -294,7 +305,7 @@ impl Region {
         gather(&self.bytes, &self.next, slip.first, self.len(slip), out);
     }
 
-    /// Sets the buffer to the bytes under a slip that the region has, and frees their blocks.
+    /// Moves the bytes that `slip` has to `out`, and frees their blocks. The slip must be one of this region.
     pub fn take(&mut self, slip: Slip, out: &mut FrameBuf)
         requires { IsSome (held_at self.old slip) }
         ensures out { out.new ≡ bytes_at self.old slip }
@@ -304,7 +315,7 @@ impl Region {
         self.free(slip);
     }
 
-    /// Frees the blocks of the bytes under a slip that the region has.
+    /// Frees the blocks of the bytes that `slip` has. The slip must be one of this region.
     pub fn free(&mut self, slip: Slip)
         requires { IsSome (held_at self.old slip) }
         ensures { self.new ≡ without slip self.old }

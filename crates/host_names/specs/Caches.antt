@@ -12,11 +12,11 @@ pub record ArrivalOf : Type 0 where
   pub address : ℕ
   pub tick : ℕ
 
--- whether it is of this sender
+-- the arrival is from the sender `uid`
 abbrev pub is_from : ℕ → ArrivalOf → Bool
 is_from uid arrival = arrival.uid == uid
 
--- those of other senders
+-- the arrivals from other senders
 abbrev pub others : ℕ → List ArrivalOf → List ArrivalOf
 others uid arrivals = filter (λ arrival. not (is_from uid arrival)) arrivals
 
@@ -29,21 +29,21 @@ last_of_each (arrival ∷ arrivals) = arrival ∷ others arrival.uid (last_of_ea
 abbrev pub kept_of : List ArrivalOf → List ArrivalOf
 kept_of arrivals = take PLACES (last_of_each arrivals)
 
--- what one more arrival makes of what is kept: its sender is the latest, and of 16 others the one that was
--- heard longest ago goes
+-- what is kept after one more arrival: its sender comes first, and of 16 others the one that was heard longest ago
+-- is dropped
 abbrev pub with_arrival : ArrivalOf → List ArrivalOf → List ArrivalOf
 with_arrival arrival kept = take PLACES (arrival ∷ others arrival.uid kept)
 
--- what is kept if at first nothing is, and then one packet after another arrives
+-- what is kept if nothing is kept at first, and then one packet after another arrives
 abbrev pub after_arrivals : List ArrivalOf → List ArrivalOf
 after_arrivals [] = []
 after_arrivals (arrival ∷ arrivals) = with_arrival arrival (after_arrivals arrivals)
 
--- where a host sends, by the last arrival of the one to whom it sends: its address is known for 64 ticks
+-- where a host sends, given the last arrival of the receiver, whose address is known for 64 ticks
 abbrev pub choice_by : ℕ → Option ArrivalOf → Choice
 choice_by now None = Broadcast
 choice_by now (Some last) = if nat_lt now (last.tick + TICKS) then Known last.address else Broadcast
 
--- where a host sends, by what it keeps
+-- where a host sends, given what it keeps
 abbrev pub choice_of : List ArrivalOf → ℕ → ℕ → Choice
 choice_of kept uid now = choice_by now (find (is_from uid) kept)

@@ -1,18 +1,18 @@
-//! The cache of one host: who was heard last stands first, and gives way last.
+//! The cache of one host: the most recent sender is first, and is replaced last.
 
 ghost use Rattle.std.specs.Prelude.{◌≡◌, ◌≤◌, [], ◌∷◌, All, find, IfOk, List};
 ghost use Rattle.std.specs.Option.{ForSome};
 ghost use Rattle.host_names.specs.Caches.{ArrivalOf, choice_by, choice_of, is_from, kept_of, with_arrival};
 
 use crate::choice::Choice;
-use an_base::memory::OutOfMemory;
+use common_values::memory::OutOfMemory;
 use std::alloc::Global;
 use std::marker::Model;
 
-/// How many senders a host remembers.
+/// The number of senders that a host remembers.
 pub const PLACES: usize = 16;
 
-/// For how many ticks a host uses what it remembers of a sender.
+/// The number of ticks for which a host uses what it remembers of a sender.
 pub const TICKS: u32 = 64;
 
 // A sender, the address that its last packet came from, and the tick at which that came.
@@ -33,14 +33,14 @@ impl Model for Heard {
     ghost inverse = { λ v. record { uid = v.uid; address = v.address; tick = v.tick } };
 }
 
-// The last arrival of a sender, if one is kept.
+// Returns the last arrival of a sender, if one is kept.
 fn last_of(heard: &[Heard], uid: u64) -> Option<Heard>
     ensures { result ≡ find (is_from uid) heard.now }
 {
     heard.iter().copied().find(|h| h.uid == uid)
 }
 
-// Where a host sends, by the last arrival of the one to whom it sends.
+// Returns where a host sends, given the last arrival of the receiver.
 fn choice_by(last: Option<Heard>, now: u32) -> Choice
     requires { ForSome last (λ arrival. arrival.tick ≤ now) }
     ensures { result ≡ choice_by now last }
@@ -53,8 +53,8 @@ fn choice_by(last: Option<Heard>, now: u32) -> Choice
     }
 }
 
-/// What a host remembers of those that sent to it, which contracts see as a list of arrivals, the
-/// newest first: of each of at most 16 senders the last.
+/// What a host remembers of those that sent to it. Contracts see it as a list of arrivals, the
+/// newest first: the last arrival of each of at most 16 senders.
 #[derive(Drop)]
 pub struct Cache {
     heard: Vec<Heard>,
@@ -73,7 +73,10 @@ impl Model for Cache {
 }
 
 impl Cache {
-    /// A cache of nothing, with places for 16 senders.
+    /// Creates an empty cache, with space for 16 senders.
+    ///
+    /// # Errors
+    /// `OutOfMemory` if the allocation fails.
     pub fn new(alloc: Global) -> Result<Self, OutOfMemory>
         ensures { IfOk result (λ cache. cache ≡ []) }
     {
@@ -82,16 +85,18 @@ impl Cache {
         })
     }
 
-    /// A packet from this sender arrives from this address at this tick, which is at least that of
-    /// each arrival before. The sender is now the latest, with this address and tick; if it is new
-    /// and 16 are kept, the one that was heard longest ago goes. It takes no memory.
+    /// Records a packet from `uid` at `address`, making it the most recent sender.
+    ///
+    /// If 16 senders are stored, a new one replaces the least recent. The caller must pass a `now`
+    /// at least as high as at any earlier arrival. Does not allocate.
     pub fn arrived(&mut self, uid: u64, address: u16, now: u32)
         requires { All (λ arrival. arrival.tick ≤ now) self.old }
         ensures kept { self.new
             ≡ with_arrival (record { uid = uid; address = address; tick = now }) self.old }
         ensures ticks { All (λ arrival. arrival.tick ≤ now) self.new }
 
-        // If it was what is kept after a list of arrivals, it is now what is kept after one more.
+        // If the cache was what is kept after a list of arrivals, it is now what is kept after one
+        // more.
         ensures after { (arrivals : List ArrivalOf) → self.old ≡ kept_of arrivals
             → self.new ≡ kept_of (record { uid = uid; address = address; tick = now } ∷ arrivals) }
     {
@@ -105,9 +110,10 @@ impl Cache {
         let _added = self.heard.insert(0, heard);
     }
 
-    /// Where the host sends a packet for this identifier at a tick that is at least that of each
-    /// arrival: to the address that it remembers, for less than 64 ticks, else to all. It takes no
-    /// memory.
+    /// Returns where the host sends a packet for `uid`: to the address that it remembers, for less
+    /// than 64 ticks, otherwise to all hosts.
+    ///
+    /// The caller must pass a `now` at least as high as at any arrival. Does not allocate.
     pub fn choose(&self, uid: u64, now: u32) -> Choice
         requires { All (λ arrival. arrival.tick ≤ now) self.now }
         ensures { result ≡ choice_of self.now uid now }

@@ -1,4 +1,4 @@
-//! What a cache keeps after any arrivals. No function here has code.
+//! Theorems about what a cache keeps after any arrivals. No function here has code.
 
 ghost use Rattle.std.specs.Prelude.{◌≡◌, ◌≢◌, ◌⊎◌, ◌≤◌, ℕ};
 ghost use Rattle.std.specs.Prelude.{List, ◌∷◌, Some, AllPairs, Contains, find, length};
@@ -10,19 +10,20 @@ pub fn the_last_senders_are_kept()
     ensures { (arrivals : List ArrivalOf) → after_arrivals arrivals ≡ kept_of arrivals }
 {}
 
-/// What is kept after one more arrival is made of what was kept before it.
+/// What is kept after one more arrival depends only on that arrival and on what was kept before it.
 pub fn one_more_arrival()
     ensures { (arrival : ArrivalOf) (arrivals : List ArrivalOf)
         → kept_of (arrival ∷ arrivals) ≡ with_arrival arrival (kept_of arrivals) }
 {}
 
-/// No sender is kept twice, and at most 16 are.
+/// No sender is kept twice, and at most 16 are kept.
 pub fn senders_are_kept_once()
     ensures apart { (arrivals : List ArrivalOf) → AllPairs (λ a b. a.uid ≢ b.uid) (kept_of arrivals) }
     ensures most { (arrivals : List ArrivalOf) → length (kept_of arrivals) ≤ PLACES }
 {}
 
-/// Of a sender the last arrival is kept, and of one that was heard none is kept only if 16 others are.
+/// The arrival that is kept of a sender is its last one. A sender that was heard is missing only if 16 others are
+/// kept.
 pub fn the_last_arrival_is_kept()
     ensures last { (arrivals : List ArrivalOf) (arrival : ArrivalOf) → Contains (kept_of arrivals) arrival
         → find (is_from arrival.uid) arrivals ≡ Some arrival }

@@ -11,8 +11,8 @@ use Rattle.std.proofs.lemmas.List.Elements.{All-append, All-cons, All-head, All-
 use Rattle.std.proofs.lemmas.List.Kept.{AllPairs-cons}
 use Rattle.std.proofs.lemmas.List.Edits.{length-insert, length-remove}
 use Rattle.std.proofs.lemmas.List.Quantifiers.{all_pairs_remove}
-use Rattle.an_base.proofs.PairLemmas.{AllPairs-append}
-use Rattle.an_base.proofs.ListLemmas.{AllPairs-head, AllPairs-tail}
+use Rattle.common_values.proofs.PairLemmas.{AllPairs-append}
+use Rattle.common_values.proofs.ListLemmas.{AllPairs-head, AllPairs-tail}
 use Rattle.slab.specs.Slab.{Slab, get, slab_len, Updates}
 use Rattle.host_traffic.specs.declared.traffic.Filed.{Filed}
 use Rattle.host_traffic.specs.Packets.{PacketOf, first_packet, packet_of, with_new, without, moved, moved_to}

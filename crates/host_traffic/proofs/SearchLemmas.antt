@@ -11,7 +11,7 @@ use Rattle.std.proofs.lemmas.Bool.Decides.{nat_tests}
 use Rattle.std.proofs.lemmas.Option.{slice_get-get_or}
 use Rattle.std.proofs.lemmas.List.{get_or_past, get_or-take, get_or-drop, length-drop, length-take-le}
 use Rattle.std.proofs.lemmas.List.Sorted.{searchable_from_sorted}
-use Rattle.an_base.proofs.OrderLaws.{nat_apart}
+use Rattle.common_values.proofs.OrderingLemmas.{nat_apart}
 use Rattle.host_traffic.specs.declared.traffic.Filed.{Filed}
 use Rattle.host_traffic.specs.Filed.{IsFoundAt, IsPlaceFor}
 use Rattle.host_traffic.proofs.FiledLemmas.{Rises}

@@ -1,8 +1,8 @@
-//! What becomes of a packet at one switch.
+//! The result of a packet's hop at one switch.
 
 use an_base::port::Port;
 
-/// Why a packet is dropped.
+/// The reason why a packet is dropped.
 #[derive(Clone, Copy, PartialEq, Eq)]
 pub enum DropCause {
     /// The link of the host that sends is down, or its port does not show a host.
@@ -19,10 +19,10 @@ pub enum DropCause {
     LinkDown,
 }
 
-/// What becomes of a packet at one switch.
+/// The result of a packet's hop at one switch.
 #[derive(Clone, Copy, PartialEq, Eq)]
 pub enum Hop {
-    /// It goes on by an exit.
+    /// It goes on through an exit (egress port).
     Went {
         /// The exit, 1 to 12.
         exit: Port,
@@ -31,12 +31,12 @@ pub enum Hop {
     Delivered {
         /// The port of the host, 1 to 12.
         exit: Port,
-        /// The place of the host in the script, from 0.
+        /// The index of the host in the script, from 0.
         host: u16,
     },
     /// It is dropped.
     Dropped {
-        /// Why.
+        /// The reason.
         cause: DropCause,
     },
 }

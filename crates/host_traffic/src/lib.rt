@@ -1,14 +1,15 @@
-//! The packets under way between hosts, and their hops by the tables in use.
+//! autonet, network: simulated packets between hosts, hop by hop.
 //!
-//! It stands on `table_build` for tables and on `slab`, which stores the packets. Its contract: a `Traffic`
-//! is the list of packets under way by rising number, and a hop makes of it what the table in use, the host
-//! at the port of the address, and the link of the lowest exit make of it. No call after the beginning takes
-//! memory.
+//! It has the packets in flight, and moves them by the routing tables in use.
 //!
-//! Who sent a packet, and by which table it made its first hop, is no part of it: no hop reads either. The
-//! packets are numbered as they are sent, so the n-th `Send` of a history names the sender of packet n, and
-//! the first `Move` of that packet stands in a state whose table in use at the sender's switch is the one.
-//! Whoever needs them keeps them beside, by the number of the packet.
+//! It depends on `table_build` for tables and on `slab`, which stores the packets. Its contract: a `Traffic` is the
+//! list of packets in flight, in ascending order of number. A hop changes it according to the table in use, the host
+//! at the port of the address, and the link of the lowest exit. Only creating it allocates.
+//!
+//! It does not record the sender of a packet, nor the table of its first hop, because no hop reads them. Packets
+//! are numbered as they are sent, so the n-th `Send` of a history names the sender of packet n, and the first `Move`
+//! of that packet happens in a state whose table in use at the sender's switch is the one. A caller that needs them
+//! stores them by the number of the packet.
 #![tactic(auto)]
 
 pub mod hop;

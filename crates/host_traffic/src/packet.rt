@@ -1,4 +1,4 @@
-//! What a packet carries. Its address is 16 times the number of a switch plus a port there.
+//! The fields of a packet. Its address is 16 times the number of a switch plus a port there.
 
 ghost use Rattle.std.specs.Prelude.{◌≡◌, ◌/◌, ◌%◌, ◌<◌, ◌^◌, Some};
 ghost use Rattle.host_traffic.specs.Packets.{moved_to, row_entry};
@@ -7,18 +7,18 @@ use an_base::place::Place;
 use an_base::port::Port;
 use std::marker::Model;
 
-/// A packet under way.
+/// A packet in flight.
 #[derive(Clone, Copy)]
 pub struct Packet {
     /// Its number.
     pub packet: u32,
-    /// The switch at which it is.
+    /// The switch that it is at.
     pub at: Place,
-    /// The port by which it came in.
+    /// The port that it came in on.
     pub entry: Port,
     /// Whether its host has just sent it.
     pub is_new: bool,
-    /// The address to which it goes.
+    /// The address that it goes to.
     pub address: u16,
     /// The identifier of the host that it is for.
     pub uid: u64,
@@ -52,28 +52,28 @@ impl Model for Packet {
 }
 
 impl Packet {
-    /// The number of the switch to which it goes.
+    /// Returns the number of the switch that it goes to.
     pub fn switch_number(self) -> u8
         ensures { result ≡ self.address / 16 }
     {
         (self.address / 16) as u8
     }
 
-    /// The port there.
+    /// Returns the port that it goes to on that switch.
     pub fn last_port(self) -> Port
         ensures { result ≡ self.address % 16 }
     {
         Port((self.address % 16) as u8)
     }
 
-    /// The entry whose row serves it.
+    /// Returns the entry of the row that forwards it: 0 until its first hop, then its ingress port.
     pub fn row_entry(self) -> Port
         ensures { result ≡ row_entry self }
     {
         if self.is_new { Port(0) } else { self.entry }
     }
 
-    /// The packet at the far end of a link.
+    /// Returns the packet after it has come to switch `at` on port `entry`.
     pub fn moved_to(self, at: Place, entry: Port) -> Packet
         ensures { result ≡ moved_to (Some (at, entry)) self }
     {

@@ -1,4 +1,4 @@
-//! The packets under way.
+//! The packets in flight.
 
 ghost use Rattle.std.specs.Prelude.{◌≡◌, ◌==◌, ◌<◌, ◌≤◌, ◌^◌, [], length, Some, is_some, true, false, AllPairs, IfOk, IfSome};
 ghost use Rattle.std.specs.Option.{option_map};
@@ -10,9 +10,9 @@ ghost use Rattle.host_traffic.specs.Filed.{IsFiledIn, IsFoundAt, IsPlaceFor, pla
 use crate::hop::{DropCause, Hop};
 use crate::packet::Packet;
 use crate::view::HopView;
-use an_base::memory::OutOfMemory;
 use an_base::place::Place;
 use an_base::port::Port;
+use common_values::memory::OutOfMemory;
 use slab::Slab;
 use std::alloc::Global;
 use std::collections::VecDeque;
@@ -25,9 +25,11 @@ struct Filed {
     key: usize,
 }
 
-/// The packets under way, with room for so many at most. They are stored in a slab. The keys stand by rising
-/// number of their packets, so the lowest is at the front: packets are numbered as they are sent, so that a
-/// new one comes last, and mostly it is the lowest one that goes.
+/// The packets in flight, up to a fixed number.
+///
+/// They are stored in a slab. Their keys are in ascending order of packet number, so the lowest one is
+/// at the front: packets are numbered as they are sent, so a new one comes last, and mostly the lowest
+/// one leaves.
 #[derive(Drop)]
 pub struct Traffic {
     most: u32,
@@ -47,7 +49,7 @@ impl Model for Traffic {
     ghost invariant = { λ t. IsFiled t.most t.packets t.order.items (deque_capacity t.order) };
 }
 
-// Where the packet of a number is filed.
+// The index at which a packet with this number is filed.
 fn found_at(order: &VecDeque<Filed>, packet: u32) -> Option<usize>
     requires { AllPairs (λ one other. one.packet < other.packet) order.now.items }
     ensures found { IsFoundAt packet order.now.items result }
@@ -59,7 +61,7 @@ fn found_at(order: &VecDeque<Filed>, packet: u32) -> Option<usize>
     }
 }
 
-// Where a packet with a new number is to be filed.
+// The index at which a packet with a new number is to be filed.
 fn place_for(order: &VecDeque<Filed>, packet: u32) -> usize
     requires { AllPairs (λ one other. one.packet < other.packet) order.now.items }
     ensures { IsPlaceFor packet order.now.items result }
@@ -67,7 +69,7 @@ fn place_for(order: &VecDeque<Filed>, packet: u32) -> usize
     order.partition_point(|filed| filed.packet < packet)
 }
 
-// Files a packet that is stored, at its place in the order of numbers. There is room for it.
+// Files a packet that is stored, in the order of numbers. There must be room for it.
 fn file(order: &mut VecDeque<Filed>, filed: Filed)
     requires rising { AllPairs (λ one other. one.packet < other.packet) order.old.items }
     requires room { deque_len order.old < deque_capacity order.old }
@@ -78,8 +80,8 @@ fn file(order: &mut VecDeque<Filed>, filed: Filed)
     order.insert(place, filed).unwrap();
 }
 
-// What becomes of a packet at the switch of its address: it is delivered to the host at the port of its
-// address, which is the one that it is for.
+// The result at the switch of the packet's address: it is delivered to the host at the port of the address, if it is
+// for that host.
 fn delivery(port: Port, host: Option<(u16, u64)>, packet: Packet) -> Hop
     ensures { result ≡ delivered_to port host packet }
 {
@@ -94,7 +96,7 @@ fn delivery(port: Port, host: Option<(u16, u64)>, packet: Packet) -> Hop
     }
 }
 
-// It goes by the lowest of these exits.
+// The result elsewhere: it goes through the lowest of these exits.
 fn onward<V: HopView>(exits: &[u8], view: &V, packet: Packet) -> Hop
     ensures { result ≡ goes_by exits.now (V.next_at view.now packet.at) }
 {
@@ -111,7 +113,7 @@ fn onward<V: HopView>(exits: &[u8], view: &V, packet: Packet) -> Hop
     }
 }
 
-// Its next hop, by the table in use.
+// The packet's next hop, by the table in use.
 fn next_hop<V: HopView>(packet: Packet, view: &V) -> Hop
     ensures { result ≡ hop_in (V.table_at view.now) (V.host_at view.now) (V.next_at view.now) packet }
 {
@@ -132,7 +134,7 @@ fn next_hop<V: HopView>(packet: Packet, view: &V) -> Hop
     }
 }
 
-// The switch and port where a packet is after a hop; none if it is under way no longer.
+// The switch and port where a packet is after a hop; `None` if it is no longer in flight.
 fn place_after<V: HopView>(hop: &Hop, view: &V, at: Place) -> Option<(Place, Port)>
     ensures { result ≡ place_after hop.now (V.next_at view.now at) }
 {
@@ -143,7 +145,10 @@ fn place_after<V: HopView>(hop: &Hop, view: &V, at: Place) -> Option<(Place, Por
 }
 
 impl Traffic {
-    /// No packets, with room for so many at once. All the memory is taken here.
+    /// Creates a list without packets, with room for `most` at once, and allocates all its memory.
+    ///
+    /// # Errors
+    /// `OutOfMemory` if an allocation fails.
     pub fn begin(alloc: Global, most: u32) -> Result<Self, OutOfMemory>
         ensures { IfOk result (λ traffic. traffic ≡ record { packets = []; most = most }) }
     {
@@ -154,9 +159,11 @@ impl Traffic {
         })
     }
 
-    /// A host has sent the packet of this number, which is not under way, and there is room for it: it is at
-    /// the switch and port of the host, and goes to this address, 16 times the number of a switch and the
-    /// port there, and to the host with this identifier. The row of entry 0 serves it until its first hop.
+    /// Adds the packet that a host at `entry` of switch `at` sends to `address`, for the host with identifier
+    /// `uid`.
+    ///
+    /// The address is 16 times the number of a switch plus a port there, below 2^12. The row of entry 0
+    /// forwards the packet at its first hop. There must be room, and no packet with this number in flight.
     pub fn send(&mut self, packet: u32, at: Place, entry: Port, address: u16, uid: u64)
         requires room { length self.old.packets < self.old.most }
         requires new { is_some (packet_of packet self.old.packets) ≡ false }
@@ -178,8 +185,9 @@ impl Traffic {
         file(&mut self.order, Filed { packet, key });
     }
 
-    /// The packet of this number, which is under way, makes its next hop. If that takes it to another
-    /// switch it is there then, and else it is under way no longer.
+    /// Moves the packet with this number, which must be in flight, by one hop, and returns the hop.
+    ///
+    /// The packet is then at another switch, or no longer in flight.
     pub fn hop<V: HopView>(&mut self, packet: u32, view: &V) -> Hop
         requires under_way { is_some (packet_of packet self.old.packets) ≡ true }
         ensures hop { Some result ≡ option_map
@@ -204,7 +212,7 @@ impl Traffic {
         hop
     }
 
-    /// The lowest packet under way; none exactly if none is under way. Packets stand by rising number.
+    /// Returns the lowest packet number in flight; `None` if and only if no packet is in flight.
     pub fn first(&self) -> Option<u32>
         ensures first { result ≡ first_packet self.now.packets }
         ensures rising { AllPairs (λ one other. one.packet < other.packet) self.now.packets }
@@ -213,8 +221,9 @@ impl Traffic {
         Some(filed.packet)
     }
 
-    /// The switch at which the packet of this number is, and the port by which it came in; none exactly if
-    /// it is not under way.
+    /// Returns the switch that the packet with this number is at, and the port that it came in on.
+    ///
+    /// Returns `None` if and only if it is not in flight.
     pub fn place(&self, packet: u32) -> Option<(Place, Port)>
         ensures { result ≡ option_map place_now (packet_of packet self.now.packets) }
     {
@@ -223,7 +232,7 @@ impl Traffic {
         Some((found.at, found.entry))
     }
 
-    /// Whether no packet is under way.
+    /// Reports whether no packet is in flight.
     pub fn is_empty(&self) -> bool
         ensures { result ≡ (length self.now.packets == 0) }
     {

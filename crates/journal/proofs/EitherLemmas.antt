@@ -15,14 +15,14 @@ use Rattle.an_base.specs.declared.event.Event.TheVariants.{Tick, Send, Move}
 use Rattle.net_script.specs.declared.command.WireChange.{WireChange}
 use Rattle.net_script.specs.declared.command.WireChange.TheVariants as wire
 use Rattle.net_script.specs.Commands.{IsPort, wire_event, most_count, wire_word}
-use Rattle.text_lines.specs.Lines.{line_text}
-use Rattle.text_lines.specs.Names.{place_of}
+use Rattle.common_lines.specs.Lines.{line_text}
+use Rattle.net_names.specs.Names.{place_of}
 use Rattle.net_script.specs.Scripts.{ScriptOf, IsScript}
-use Rattle.text_lines.specs.Words.{is_number, is_number_in, number_value}
-use Rattle.text_lines.proofs.ChoiceLemmas.{branch, mapped, word_is}
+use Rattle.common_lines.specs.Words.{is_number, is_number_in, number_value}
+use Rattle.common_lines.proofs.ChoiceLemmas.{branch, mapped, word_is}
 use Rattle.net_script.proofs.FormOf.{wire_of, wire_is}
-use Rattle.an_base.proofs.ListLemmas.{some_is}
-use Rattle.text_lines.proofs.NameLemmas.{place_found}
+use Rattle.common_values.proofs.ListLemmas.{some_is}
+use Rattle.net_names.proofs.NameLemmas.{place_found}
 use Rattle.journal_cause.specs.declared.cause.JournalCause.{JournalCause}
 use Rattle.journal_cause.specs.declared.cause.JournalCause.TheVariants.{BadHeader, UnknownWord, BadNumber, NoSuchName, NoEnd}
 use Rattle.journal.specs.declared.kind.SwitchEvent.{SwitchEvent}
@@ -31,8 +31,8 @@ use Rattle.journal.specs.declared.kind.PortEvent.{PortEvent}
 use Rattle.journal.specs.declared.kind.PortEvent.TheVariants as port
 use Rattle.journal.specs.Kinds.{switch_event, port_event}
 use Rattle.journal.specs.Words.{words_of, is_shaped}
-use Rattle.text_lines.specs.Grammar.{HasNoFormBy}
-use Rattle.text_lines.proofs.FaultLemmas.{holds, no_first}
+use Rattle.common_lines.specs.Grammar.{HasNoFormBy}
+use Rattle.common_lines.proofs.FaultLemmas.{holds, no_first}
 use Rattle.journal.specs.Lines.{Line, Ticks, Moves, OnSwitch, OnPort, OnWire, Sends, line_words, switch_word, port_word}
 use Rattle.journal.specs.Events.{CanSpell, IsCount, event_words, switch_name, host_name, first_words}
 use Rattle.journal.specs.Rules.{name_cause, number_cause, line_cause}

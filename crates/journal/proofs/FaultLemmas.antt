@@ -7,17 +7,17 @@ use Rattle.std.proofs.lemmas.List.{get_or_at}
 use Rattle.std.proofs.lemmas.List.Elements.{All-head, All-tail}
 use Rattle.an_base.specs.declared.event.Event.{Event}
 use Rattle.an_base.specs.declared.event.Event.TheVariants.{Tick, Clock, Take, Handle, Load, Fail, Repair, Lose, Again, Swap, Noise, Send, Move, Restart}
-use Rattle.text_lines.specs.Lines.{line_text}
-use Rattle.text_lines.specs.Names.{place_of}
+use Rattle.common_lines.specs.Lines.{line_text}
+use Rattle.net_names.specs.Names.{place_of}
 use Rattle.net_script.specs.Commands.{IsPort}
 use Rattle.net_script.specs.Scripts.{ScriptOf, IsScript}
-use Rattle.text_lines.proofs.SpellLemmas.{IsLineByte, IsWord, decimal_good, line_bytes, line_short, nonempty, test_from_all}
+use Rattle.common_lines.proofs.SpellLemmas.{IsLineByte, IsWord, decimal_good, line_bytes, line_short, nonempty, test_from_all}
 use Rattle.journal_cause.specs.declared.cause.JournalCause.{JournalCause}
 use Rattle.journal_cause.specs.declared.cause.JournalCause.TheVariants.{UnknownWord, BadNumber, NoSuchName}
 use Rattle.journal.specs.Words.{words_of, is_shaped, is_line_byte, has_words}
-use Rattle.text_lines.specs.Faults.{unless}
-use Rattle.text_lines.proofs.FaultLemmas.{first_good}
-use Rattle.text_lines.proofs.GrammarLaws.{form_one_cause}
+use Rattle.common_lines.specs.Faults.{unless}
+use Rattle.common_lines.proofs.FaultLemmas.{first_good}
+use Rattle.common_lines.proofs.GrammarLaws.{form_one_cause}
 use Rattle.journal.specs.Lines.{Line, line_words}
 use Rattle.journal.specs.Events.{CanSpell, IsCount, event_line, event_words, switch_name, host_name, first_words, last_words, events_text, journal_text}
 use Rattle.journal.specs.Rules.{name_cause, number_cause, line_cause}

@@ -11,13 +11,13 @@ use Rattle.std.proofs.lemmas.Fmt.{decimal-digits_value}
 use Rattle.std.proofs.lemmas.List.{get_or_default}
 use Rattle.std.proofs.lemmas.List.Quantifiers.{position-Some}
 use Rattle.std.proofs.lemmas.Slice.Eq.{bytes_eq-Decides}
-use Rattle.text_lines.specs.Words.{is_number, is_number_in, number_value}
-use Rattle.text_lines.specs.Names.{place_of}
-use Rattle.text_lines.proofs.WordLemmas.{own}
+use Rattle.common_lines.specs.Words.{is_number, is_number_in, number_value}
+use Rattle.net_names.specs.Names.{place_of}
+use Rattle.common_lines.proofs.WordLemmas.{own}
 use Rattle.journal_cause.specs.declared.cause.JournalCause.TheVariants.{BadNumber, NoSuchName}
-use Rattle.text_lines.specs.Faults.{unless}
+use Rattle.common_lines.specs.Faults.{unless}
 use Rattle.journal.specs.Rules.{name_cause, number_cause}
-use Rattle.text_lines.specs.Faults.{IsGoodField}
+use Rattle.common_lines.specs.Faults.{IsGoodField}
 
 -- the name at a place that was found
 place_found : (names : List (List ℕ)) (name : List ℕ) (x : ℕ) → place_of names name ≡ Some x → name ≡ get_or names x []

@@ -8,19 +8,21 @@ use Rattle.std.proofs.lemmas.Bool.Decides.{nat_tests}
 use Rattle.std.proofs.lemmas.List.Elements.{All-head, All-tail, All-get_or, All-weaker}
 use Rattle.an_base.specs.declared.event.Event.{Event}
 use Rattle.an_base.specs.declared.event.Event.TheVariants.{Tick, Clock, Take, Handle, Load, Fail, Repair, Lose, Again, Swap, Noise, Send, Move, Restart}
-use Rattle.an_base.proofs.PairLemmas.{AllPairs-front}
+use Rattle.common_values.proofs.PairLemmas.{AllPairs-front}
 use Rattle.net_script.specs.declared.command.WireChange.TheVariants as wire
 use Rattle.net_script.specs.Commands.{IsPort, wire_event}
-use Rattle.text_lines.specs.Lines.{line_text}
-use Rattle.text_lines.specs.Names.{place_of}
+use Rattle.common_lines.specs.Lines.{line_text}
+use Rattle.net_names.specs.Names.{place_of}
 use Rattle.net_script.specs.Rules.{place}
 use Rattle.net_script.specs.Scripts.{ScriptOf, IsScript}
-use Rattle.text_lines.specs.Words.{IsName, number_value}
+use Rattle.common_lines.specs.Words.{number_value}
+use Rattle.net_names.specs.Words.{IsName}
 use Rattle.net_script.proofs.FormOf.{wire_of}
-use Rattle.text_lines.proofs.NameLemmas.{place_at}
+use Rattle.net_names.proofs.NameLemmas.{place_at}
 use Rattle.script_text.proofs.ChainLemmas.{apart_back}
-use Rattle.text_lines.proofs.SpellLemmas.{IsPrinted, IsLineByte, IsWord, decimal_value, decimal_word, line_bytes, name_word, split_words}
-use Rattle.text_lines.proofs.SpellLemmas.{fixed_word, words_cons, words_nil}
+use Rattle.common_lines.proofs.SpellLemmas.{IsPrinted, IsLineByte, IsWord, decimal_value, decimal_word, line_bytes, split_words}
+use Rattle.net_names.proofs.WordLemmas.{name_word}
+use Rattle.common_lines.proofs.SpellLemmas.{fixed_word, words_cons, words_nil}
 use Rattle.journal.specs.declared.kind.SwitchEvent.{SwitchEvent}
 use Rattle.journal.specs.declared.kind.SwitchEvent.TheVariants as switch
 use Rattle.journal.specs.declared.kind.PortEvent.{PortEvent}

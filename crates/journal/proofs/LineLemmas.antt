@@ -7,7 +7,7 @@ use Rattle.std.proofs.lemmas.List.Folds.{list_all_more, list_all_at}
 use Rattle.std.proofs.lemmas.List.Elements.{All-from_get_or}
 use Rattle.std.proofs.lemmas.List.Quantifiers.{position-Some}
 use Rattle.std.proofs.lemmas.List.Splits.{slice_split_none, slice_split_at}
-use Rattle.text_lines.proofs.LineLemmas.{position_none}
+use Rattle.common_lines.proofs.LineLemmas.{position_none}
 use Rattle.journal.specs.Words.{words_of, has_words}
 use Rattle.journal.specs.Texts.{IsFirstLine}
 

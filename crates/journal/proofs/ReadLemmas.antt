@@ -7,14 +7,14 @@ use Rattle.std.proofs.lemmas.Grind.{flat_map-append}
 use Rattle.std.proofs.lemmas.List.{map_push, length_push}
 use Rattle.std.proofs.lemmas.List.Elements.{All-push}
 use Rattle.an_base.specs.declared.event.Event.{Event}
-use Rattle.text_lines.specs.Lines.{line_text}
+use Rattle.common_lines.specs.Lines.{line_text}
 use Rattle.net_script.specs.Scripts.{ScriptOf}
 use Rattle.journal.specs.Events.{CanSpell, event_words, first_words, last_words, events_text, journal_text}
 use Rattle.journal_cause.specs.declared.cause.JournalCause.{JournalCause}
 use Rattle.journal.specs.Lines.{Line, line_words}
 use Rattle.journal.specs.Steps.{JournalStop, ReadsForm, ReadsWords, ReadsLine, IsRefusal}
-use Rattle.text_lines.specs.Stops.{refusal_at}
-use Rattle.text_lines.specs.declared.stop.Stop.TheVariants.{Fault, OutOfMemory}
+use Rattle.common_lines.specs.Stops.{refusal_at}
+use Rattle.common_lines.specs.declared.stop.Stop.TheVariants.{Fault, OutOfMemory}
 use Rattle.journal_cause.specs.declared.cause.JournalCause.TheVariants.{UnknownWord}
 use Rattle.journal.specs.Words.{words_of, is_shaped}
 use Rattle.journal.specs.Texts.{IsFirstLine, IsJournal, AreWrong, IsWrongLine}

@@ -2,7 +2,7 @@
 use Rattle.std.proofs.Common.{◌≡◌, ◌≢◌, sym, subst, ℕ, List, [], ◌∷◌, ◌++◌, append_assoc, append-nil, Err, Option, Some, None, codes}
 use Rattle.an_base.specs.declared.event.Event.{Event}
 use Rattle.net_script.specs.Scripts.{ScriptOf}
-use Rattle.text_lines.specs.Stops.{refusal_at}
+use Rattle.common_lines.specs.Stops.{refusal_at}
 use Rattle.journal.specs.Texts.{IsFirstLine, IsJournal}
 use Rattle.journal.specs.Steps.{JournalStop, ReadsLine, IsRefusal}
 use Rattle.journal.specs.Reading.{BeginsJournal, HasRead, IsNext, ReaderOf}

@@ -5,7 +5,7 @@ use Rattle.an_base.specs.declared.event.Event.TheVariants.{Tick, Clock, Take, Ha
 use Rattle.an_base.specs.declared.event.Event.TheVariants.{Lose, Again, Swap, Noise, Send, Move, Restart}
 use Rattle.net_script.specs.Commands.{IsPort}
 use Rattle.net_script.specs.Scripts.{ScriptOf}
-use Rattle.text_lines.specs.Lines.{line_text, lines_text}
+use Rattle.common_lines.specs.Lines.{line_text, lines_text}
 use Rattle.journal.specs.Lines.{Line, Ticks, Moves, OnSwitch, OnPort, OnWire, Sends, line_words}
 use Rattle.journal.specs.declared.kind.SwitchEvent.TheVariants as switch
 use Rattle.journal.specs.declared.kind.PortEvent.TheVariants as port
@@ -13,7 +13,7 @@ use Rattle.net_script.specs.declared.command.WireChange.TheVariants as wire
 
 -- The text of a journal, event by event.
 
--- the name of a switch, and of a host, by its place
+-- the name of the switch `node`, and of the host `host`
 abbrev pub switch_name : ScriptOf → ℕ → List ℕ
 switch_name script node = slice_index_or script.switch_names node []
 
@@ -45,20 +45,20 @@ event_line script (Restart node) = OnSwitch switch.Restart (switch_name script n
 abbrev pub event_words : ScriptOf → Event → List (List ℕ)
 event_words script event = line_words (event_line script event)
 
--- a switch of the script, and a host
+-- `node` is a switch of the script, and `host` is a host of it
 abbrev pub IsSwitch : ScriptOf → ℕ → Type 0
 IsSwitch script node = node < length script.wires.switches
 
 abbrev pub IsHost : ScriptOf → ℕ → Type 0
 IsHost script host = host < length script.wires.hosts
 
--- a port of the script, and a count up to most
+-- `at_port` is a port of a switch `node` of the script, and `count` is from 1 to `most`
 pub record IsCount (script : ScriptOf) (node at_port count most : ℕ) : Type 0 where
   pub port : IsPort script.wires node at_port
   pub count_least : 1 ≤ count
   pub count_most : count ≤ most
 
--- the events that can be spelled for a script: their places are places of it, their numbers in range
+-- the event can be written for the script: its indices are those of the script, and its numbers are in range
 abbrev pub CanSpell : ScriptOf → Event → Type 0
 CanSpell script Tick = Unit {0}
 CanSpell script (Clock node) = IsSwitch script node
@@ -75,14 +75,14 @@ CanSpell script (Send host to) = IsHost script host × IsHost script to
 CanSpell script (Move packet) = (1 ≤ packet) × (packet < 2 ^ 32)
 CanSpell script (Restart node) = IsSwitch script node
 
--- the first and the last line of a journal
+-- the words of the first and of the last line of a journal
 abbrev pub first_words : List (List ℕ)
 first_words = codes "journal" ∷ codes "1" ∷ []
 
 abbrev pub last_words : List (List ℕ)
 last_words = codes "end" ∷ []
 
--- the lines of events
+-- the text of the lines of `events`
 abbrev pub events_text : ScriptOf → List Event → List ℕ
 events_text script events = lines_text (map (event_words script) events)
 

@@ -6,9 +6,9 @@ use Rattle.journal.specs.declared.kind.SwitchEvent.TheVariants as switch
 use Rattle.journal.specs.declared.kind.PortEvent.{PortEvent}
 use Rattle.journal.specs.declared.kind.PortEvent.TheVariants as port
 
--- The kinds of events that have a switch, or a port of one.
+-- The kinds of events at a switch, or at a port of a switch.
 
--- the event of a kind at a switch, and at a port
+-- the event of a kind at a switch (`switch_event`), and at a port (`port_event`)
 abbrev pub switch_event : SwitchEvent → ℕ → Event
 switch_event switch.Clock node = Clock node
 switch_event switch.Handle node = Handle node

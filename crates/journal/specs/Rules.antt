@@ -1,24 +1,24 @@
 use Rattle.std.specs.Prelude.{◌^◌, ◌-◌, ℕ, List, Option, None, is_some}
 use Rattle.std.specs.Option.{option_or}
-use Rattle.text_lines.specs.Words.{is_number_in}
-use Rattle.text_lines.specs.Names.{place_of}
+use Rattle.common_lines.specs.Words.{is_number_in}
+use Rattle.net_names.specs.Names.{place_of}
 use Rattle.net_script.specs.Commands.{most_count}
 use Rattle.net_script.specs.Scripts.{ScriptOf}
 use Rattle.journal_cause.specs.declared.cause.JournalCause.{JournalCause}
 use Rattle.journal_cause.specs.declared.cause.JournalCause.TheVariants.{BadNumber, NoSuchName}
-use Rattle.text_lines.specs.Faults.{unless}
+use Rattle.common_lines.specs.Faults.{unless}
 use Rattle.journal.specs.Lines.{Line, Ticks, Moves, OnSwitch, OnPort, OnWire, Sends}
 
--- What is wrong with the fields of a line.
+-- The errors of the fields of a line.
 
--- what is wrong with a word, if anything is: as one of these names, and as a number of a range
+-- the error, if any, of a word that must be one of `names`, or a number from `least` to `most`
 abbrev pub name_cause : List (List ℕ) → List ℕ → Option JournalCause
 name_cause names word = unless (is_some (place_of names word)) NoSuchName
 
 abbrev pub number_cause : (least most : ℕ) → List ℕ → Option JournalCause
 number_cause least most word = unless (is_number_in least most word) BadNumber
 
--- what is wrong with the fields of a line, if anything is, from left to right
+-- the first error, if any, of the fields of a line, from left to right
 abbrev pub line_cause : ScriptOf → Line → Option JournalCause
 line_cause script Ticks = None
 line_cause script (Moves packet) = number_cause 1 (2 ^ 32 - 1) packet

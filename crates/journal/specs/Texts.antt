@@ -1,7 +1,7 @@
 use Rattle.std.specs.Prelude.{◌≡◌, ◌≢◌, ◌⊎◌, ℕ, ◌+◌, List, [], ◌∷◌, ◌++◌, length, All, true, false, codes}
 use Rattle.an_base.specs.declared.event.Event.{Event}
-use Rattle.text_lines.specs.Lines.{line_text}
-use Rattle.text_lines.specs.Grammar.{IsFaultyFormBy}
+use Rattle.common_lines.specs.Lines.{line_text}
+use Rattle.common_lines.specs.Grammar.{IsFaultyFormBy}
 use Rattle.net_script.specs.Scripts.{ScriptOf}
 use Rattle.journal_cause.specs.declared.cause.JournalCause.{JournalCause}
 use Rattle.journal_cause.specs.declared.cause.JournalCause.TheVariants.{BadHeader, UnknownWord, NoEnd}
@@ -10,30 +10,30 @@ use Rattle.journal.specs.Lines.{line_words}
 use Rattle.journal.specs.Events.{CanSpell, first_words, events_text, journal_text}
 use Rattle.journal.specs.Rules.{line_cause}
 
--- Which bytes begin with the text of a journal, and what is wrong with those that do not.
+-- The bytes that begin with the text of a journal, and the errors of those that do not.
 
--- the bytes begin with the text of these events, all of which can be spelled for the script
+-- `bytes` begin with the text of `events`, all of which can be written for the script
 pub record IsJournal (script : ScriptOf) (bytes : List ℕ) (events : List Event) : Type 0 where
   pub spelled : All (CanSpell script) events
   pub after : List ℕ
   pub text : bytes ≡ journal_text script events ++ after
 
--- the bytes are a line and what stands after its line feed (10)
+-- `bytes` are `line`, a line feed (10), and `after`; and `line` has no line feed
 pub record IsFirstLine (bytes line after : List ℕ) : Type 0 where
   pub parts : bytes ≡ line ++ 10 ∷ after
   pub no_feed : All (λ byte. byte ≢ 10) line
 
--- words that are none of an event: they have no form, or one with whose fields this is wrong
+-- the words are not those of an event: they have no form, or a form whose fields have this error
 abbrev pub AreWrong : ScriptOf → List (List ℕ) → JournalCause → Type 0
 AreWrong = IsFaultyFormBy line_words line_cause UnknownWord
 
--- a line that is none of an event
+-- `line` is not the line of an event, for the reason `cause`
 abbrev pub IsWrongLine : ScriptOf → List ℕ → JournalCause → Type 0
 IsWrongLine script line cause =
     ((is_shaped line ≡ false) × (cause ≡ UnknownWord))
     ⊎ ((is_shaped line ≡ true) × AreWrong script (words_of line) cause)
 
--- a line that is neither of an event nor the last
+-- `rest` begins with a line that is not of an event and not the last, for the reason `cause`
 pub record IsFaultyLine (script : ScriptOf) (rest : List ℕ) (cause : JournalCause) : Type 0 where
   pub line : List ℕ
   pub after : List ℕ
@@ -41,25 +41,25 @@ pub record IsFaultyLine (script : ScriptOf) (rest : List ℕ) (cause : JournalCa
   pub not_last : line ≢ codes "end"
   pub wrong : IsWrongLine script line cause
 
--- bytes without a line feed, of which there are some
+-- `rest` has bytes, but no line feed
 pub record IsUnended (rest : List ℕ) (cause : JournalCause) : Type 0 where
   pub some : rest ≢ []
   pub no_feed : All (λ byte. byte ≢ 10) rest
   pub cause_is : cause ≡ UnknownWord
 
--- what is wrong with what stands after so many lines of events
+-- the error of `rest`, the bytes after the lines of events, is `cause`
 abbrev pub IsFaultyRest : ScriptOf → List ℕ → JournalCause → Type 0
 IsFaultyRest script rest cause =
     ((rest ≡ []) × (cause ≡ NoEnd)) ⊎ (IsUnended rest cause ⊎ IsFaultyLine script rest cause)
 
--- the first line is not `journal 1`, and there are some bytes
+-- there are bytes, but the first line is not `journal 1`
 pub record HasNoHeader (bytes : List ℕ) (line : ℕ) (cause : JournalCause) : Type 0 where
   pub some : bytes ≢ []
   pub none : (rest : List ℕ) → bytes ≢ line_text first_words ++ rest
   pub number : line ≡ 1
   pub cause_is : cause ≡ BadHeader
 
--- after the first line and those of some events something is wrong
+-- after the first line and the lines of some events, line number `line` has the error `cause`
 pub record IsFaultAfter (script : ScriptOf) (bytes : List ℕ) (line : ℕ) (cause : JournalCause) : Type 0 where
   pub events : List Event
   pub spelled : All (CanSpell script) events
@@ -68,7 +68,7 @@ pub record IsFaultAfter (script : ScriptOf) (bytes : List ℕ) (line : ℕ) (cau
   pub number : line ≡ length events + 2
   pub wrong : IsFaultyRest script rest cause
 
--- the first fault of the bytes is in this line and of this cause
+-- the first error of `bytes` is in line number `line`, and is `cause`
 abbrev pub IsFault : ScriptOf → List ℕ → ℕ → JournalCause → Type 0
 IsFault script bytes line cause =
     ((bytes ≡ []) × (line ≡ 1) × (cause ≡ NoEnd))

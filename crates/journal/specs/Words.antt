@@ -3,11 +3,11 @@ use Rattle.std.specs.List.{list_all, slice_split}
 
 -- The words of a line of a journal.
 
--- the words of a line: the parts between its spaces (32), of which some may be empty
+-- the words of a line: the parts between its spaces (32), which can be empty
 unfoldable pub words_of : List ℕ → List (List ℕ)
 words_of line = slice_split (λ byte. byte == 32) line
 
--- a byte that may stand in a line: 32 to 126
+-- whether a byte is allowed in a line: 32 to 126
 abbrev pub is_line_byte : ℕ → Bool
 is_line_byte byte = nat_le 32 byte && nat_le byte 126
 
@@ -15,6 +15,6 @@ is_line_byte byte = nat_le 32 byte && nat_le byte 126
 abbrev pub has_words : List (List ℕ) → Bool
 has_words words = list_all (λ word. not (length word == 0)) words
 
--- whether a line has at most 200 bytes, only such as may stand in it, and no empty word
+-- whether a line has at most 200 bytes, all of them allowed in a line, and no empty word
 abbrev pub is_shaped : List ℕ → Bool
 is_shaped line = nat_le (length line) 200 && (list_all is_line_byte line && has_words (words_of line))

@@ -1,4 +1,4 @@
-//! The kinds of events that have a switch, or a port of one.
+//! The kinds of events at a switch, or at a port of a switch.
 
 ghost use Rattle.std.specs.Prelude.{◌≡◌};
 ghost use Rattle.journal.specs.Kinds.{switch_event, port_event};
@@ -10,18 +10,18 @@ use an_base::port::Port;
 /// An event of a switch.
 #[derive(Clone, Copy, PartialEq, Eq)]
 pub enum SwitchEvent {
-    /// It takes its clock in hand.
+    /// The switch takes its next clock event.
     Clock,
-    /// It handles what it has in hand.
+    /// The switch handles what it has taken.
     Handle,
-    /// It loads its table.
+    /// The switch loads its routing table.
     Load,
-    /// It is switched off and on.
+    /// The switch restarts.
     Restart,
 }
 
 impl SwitchEvent {
-    /// The event of this kind at a switch.
+    /// Returns the event of this kind at the switch `s`.
     pub fn at(self, s: Place) -> Event
         ensures { result ≡ switch_event self s }
     {
@@ -37,16 +37,16 @@ impl SwitchEvent {
 /// An event at a port of a switch.
 #[derive(Clone, Copy, PartialEq, Eq)]
 pub enum PortEvent {
-    /// The switch takes a frame in hand from the wire that comes in there.
+    /// The switch takes a frame from the incoming wire of the port.
     Take,
-    /// The link there goes down.
+    /// The link of the port goes down.
     Fail,
-    /// The link there comes up.
+    /// The link of the port comes up.
     Repair,
 }
 
 impl PortEvent {
-    /// The event of this kind at a port.
+    /// Returns the event of this kind at `port` of the switch `s`.
     pub fn at(self, s: Place, port: Port) -> Event
         ensures { result ≡ port_event self s port }
     {

@@ -1,8 +1,10 @@
-//! The text of a journal: one line for each event of a run, and one spelling for each journal.
+//! autonet, files: reader and printer of journals (event logs).
 //!
-//! It stands on `an_base`, `text_lines`, `net_script`, `script_text` and `journal_cause`. Its contract:
-//! `printer::print` gives the text of a journal; `reader::read` answers one only if the bytes begin with
-//! its text, and else the first faulty line with its cause; want of memory may come in place of either.
+//! The text of a journal has one line for each event of a run, and a journal has only one text.
+//!
+//! It depends on `net_script`, `script_text` and `journal_cause`. Its contract: `printer::print` returns the text of a
+//! journal; `reader::read` returns a journal only if the bytes begin with its text, and otherwise the first line with
+//! an error and its error; each can run out of memory instead.
 #![tactic(auto)]
 
 mod kind;

@@ -3,21 +3,21 @@
 ghost use Rattle.std.specs.Prelude.{◌≡◌, ◌≤◌, ◌++◌, ℕ, [], ◌∷◌, codes, All, IfOk, IfSome, OnOk};
 ghost use Rattle.std.specs.Fmt.{decimal};
 ghost use Rattle.an_base.specs.declared.event.Event.TheVariants.{Take};
-ghost use Rattle.text_lines.specs.Lines.{line_text};
+ghost use Rattle.common_lines.specs.Lines.{line_text};
 ghost use Rattle.net_script.specs.Scripts.{ScriptOf};
 ghost use Rattle.journal.specs.Events.{CanSpell, IsSwitch, event_words, events_text, journal_text};
 ghost use Rattle.journal.specs.Ready.{AreLinesOf, AreReady, AreTakesOf};
 
 use an_base::event::{Event, Journal};
 use an_base::limits::LAST_PORT;
-use an_base::memory::OutOfMemory;
 use an_base::place::Place;
 use an_base::port::Port;
+use common_lines::spelling::push_line;
+use common_values::memory::OutOfMemory;
 use itoa::Buffer;
 use net_script::script::Script;
 use script_text::printer::{push_at, push_send};
 use std::alloc::Global;
-use text_lines::spelling::push_line;
 
 // The lines of the events of a switch that come most often.
 #[derive(Drop)]
@@ -35,7 +35,12 @@ const LINE: usize = 16;
 // The making of a switch's lines pays if there are about so many events for each switch.
 const WORTH_LINES: usize = 128;
 
-/// The text of a journal: the first line, a line for each event, and the last line.
+/// Returns the text of `journal`: the first line, a line for each event, and the last line.
+///
+/// The caller must pass events whose names and numbers `script` allows (`CanSpell`).
+///
+/// # Errors
+/// `OutOfMemory` if an allocation fails.
 pub fn print(alloc: Global, script: &Script, journal: &Journal) -> Result<Vec<u8>, OutOfMemory>
     requires spelled { All (CanSpell script.now) journal.now }
     ensures { IfOk result (λ text. text.items ≡ journal_text script.now journal.now) }

@@ -3,8 +3,8 @@
 ghost use Rattle.std.specs.Prelude.{◌≡◌, ◌≢◌, ◌<◌, ◌≤◌, ◌-◌, ◌^◌, ◌++◌, [], List, ℕ, length, map, if◌then◌else◌, All, IfOk, IfErr, IfSome, IfNone, OnErr, OnOk};
 ghost use Rattle.an_base.specs.declared.event.Event.{Event};
 ghost use Rattle.net_script.specs.Scripts.{ScriptOf};
-ghost use Rattle.text_lines.specs.Lines.{line_text};
-ghost use Rattle.text_lines.specs.declared.stop.Stop.TheVariants.{Fault};
+ghost use Rattle.common_lines.specs.Lines.{line_text};
+ghost use Rattle.common_lines.specs.declared.stop.Stop.TheVariants.{Fault};
 ghost use Rattle.journal_cause.specs.declared.cause.JournalCause.TheVariants.{UnknownWord};
 ghost use Rattle.journal.specs.declared.line.TheConstants.{MOST_LINE};
 ghost use Rattle.journal.specs.Words.{words_of, is_shaped};
@@ -16,21 +16,24 @@ ghost use Rattle.journal.specs.Reading.{BeginsJournal, HasRead, IsNext};
 use crate::line::{MOST_LINE, are_line_bytes, first_line, have_bytes, set_words};
 use crate::words::read_words;
 use an_base::event::{Event, Journal};
+use common_lines::stop::{Refusal, Stop};
 use journal_cause::cause::JournalCause;
 use net_script::script::Script;
 use std::alloc::Global;
 use std::marker::Model;
-use text_lines::stop::{Refusal, Stop};
 
-/// Why bytes were not read, or a journal was refused: the first faulty line, from 1, with what is wrong
-/// with it; or that no memory was found, which says nothing about the bytes.
+/// The reason why bytes were not read, or a journal was rejected.
+///
+/// It is the number, from 1, of the first line with an error and that error; or out of memory, which says
+/// nothing about the bytes.
 pub type JournalRefusal = Refusal<JournalCause>;
 
-/// Why a line was not read.
+/// The reason why a line was not read.
 pub type JournalStop = Stop<JournalCause>;
 
-/// The text of a journal, whose events are read one by one. It keeps none of them. As the code is written, and by
-/// no clause, it takes no more memory than the words of one line need.
+/// A reader of the events of a journal, one by one. It keeps no events.
+///
+/// By design, not proved, it allocates only for the words of one line.
 #[derive(Drop)]
 pub struct Reader<'a> {
     script: &'a Script,
@@ -52,8 +55,10 @@ impl<'a> Model for Reader<'a> {
 }
 
 impl<'a> Reader<'a> {
-    /// A reader that stands after the first line. A refusal says the first fault of all the bytes, or that no
-    /// memory was found.
+    /// Creates a reader of `bytes`, and reads the first line. The caller must pass fewer than 2^32 - 1 bytes.
+    ///
+    /// # Errors
+    /// The first error in `bytes`, or `OutOfMemory`, which says nothing about `bytes`.
     pub fn begin(alloc: Global, script: &'a Script, bytes: &'a [u8]) -> Result<Self, JournalRefusal>
         requires few { length bytes.now < 2 ^ 32 - 1 }
         ensures begun { IfOk result (HasRead script.now bytes.now []) }
@@ -79,8 +84,10 @@ impl<'a> Reader<'a> {
         })
     }
 
-    /// The next event, or none if the line is `end`. What stands after that line is not looked at.
-    /// After an error the reader stands where it stood.
+    /// Returns the next event, or `None` if the line is `end`. It ignores all bytes after that line.
+    ///
+    /// # Errors
+    /// The first error in the bytes of the reader, or `OutOfMemory`. The reader is then unchanged.
     pub fn next(&mut self) -> Result<Option<Event>, JournalRefusal>
         ensures next { (script : ScriptOf) (bytes : List ℕ) (events : List Event) →
             HasRead script bytes events self.old → IfOk result (IsNext script bytes events self.new) }
@@ -106,7 +113,7 @@ impl<'a> Reader<'a> {
         }
     }
 
-    // Why a text without a further line feed is refused.
+    // Why a text without another line feed is rejected.
     fn unended(&self) -> JournalRefusal
         requires { All (λ c. c ≢ 10) self.now.rest }
         ensures { (script : ScriptOf) (bytes : List ℕ) (events : List Event) →
@@ -123,8 +130,10 @@ impl<'a> Reader<'a> {
         }
     }
 
-    /// Reads on to the line `end`, and keeps nothing: if no line is at fault, there is a journal. A refusal
-    /// says the first fault of all the bytes, or that no memory was found.
+    /// Checks the rest of the journal up to the line `end`, and keeps nothing.
+    ///
+    /// # Errors
+    /// The first error in the bytes of the reader, or `OutOfMemory`, which says nothing about them.
     pub fn check_rest(&mut self) -> Result<(), JournalRefusal>
         ensures journal { (script : ScriptOf) (bytes : List ℕ) (events : List Event) →
             HasRead script bytes events self.old → OnOk result (BeginsJournal script bytes events) }
@@ -136,7 +145,7 @@ impl<'a> Reader<'a> {
     }
 }
 
-// What stands after the first line.
+// The bytes after the first line.
 fn after_header(bytes: &[u8]) -> Option<&[u8]>
     ensures some { IfSome result (λ rest. bytes.now ≡ line_text first_words ++ rest.now) }
     ensures none { IfNone result ((rest : List ℕ) → bytes.now ≢ line_text first_words ++ rest) }
@@ -144,9 +153,13 @@ fn after_header(bytes: &[u8]) -> Option<&[u8]>
     bytes.strip_prefix(b"journal 1\n".as_slice())
 }
 
-/// The journal with whose text the bytes begin. What stands after the line `end` is not looked at.
-/// As the code is written, and by no clause, the time is linear in the bytes but for the look-ups of names,
-/// and no more memory is taken than the events and the words of one line need. `OutOfMemory` says nothing of the bytes.
+/// Parses the text of a journal. It ignores all bytes after the line `end`.
+///
+/// By design, not proved, the time is linear in the bytes, except for looking up names, and it allocates only for
+/// the events and the words of one line. The caller must pass fewer than 2^32 - 1 bytes.
+///
+/// # Errors
+/// The first error in `bytes`, or `OutOfMemory`, which says nothing about `bytes`.
 pub fn read(alloc: Global, script: &Script, bytes: &[u8]) -> Result<Journal, JournalRefusal>
     requires few { length bytes.now < 2 ^ 32 - 1 }
     ensures journal { IfOk result (IsJournal script.now bytes.now) }
@@ -178,8 +191,8 @@ fn read_line<'a>(
     }
 }
 
-// What is wrong with a line of at most 200 bytes whose words are none of an event, by what is wrong with its words.
-// The bytes of a line that is one of an event need no look: its words are names, numbers and fixed words.
+// The error of a line of at most 200 bytes whose words are not those of an event, given the error of its words. The
+// bytes of an event's line need no check: its words are names, numbers and fixed words.
 fn wrong_line(line: &[u8], words: &[&[u8]], cause: JournalCause) -> JournalCause
     requires short { length line.now ≤ MOST_LINE }
     requires words { map (λ w. w.now) words.now ≡ words_of line.now }

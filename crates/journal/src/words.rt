@@ -1,8 +1,8 @@
-//! The words of a line of a journal: which event they say, and what is wrong with them.
+//! The words of a line of a journal: their event, or their error.
 
 ghost use Rattle.std.specs.Prelude.{◌≡◌, ◌≢◌, ◌<◌, ◌≤◌, [], ◌∷◌, map, IfSome, IfNone};
 ghost use Rattle.std.specs.Fmt.{decimal};
-ghost use Rattle.text_lines.specs.Faults.{IsGoodField};
+ghost use Rattle.common_lines.specs.Faults.{IsGoodField};
 ghost use Rattle.journal.specs.declared.kind.SwitchEvent.{SwitchEvent};
 ghost use Rattle.journal.specs.declared.kind.PortEvent.{PortEvent};
 ghost use Rattle.journal.specs.Lines.{Moves, OnSwitch, OnPort, OnWire, Sends, switch_word, port_word};
@@ -14,12 +14,15 @@ use crate::kind::{PortEvent, SwitchEvent};
 use an_base::event::Event;
 use an_base::place::Place;
 use an_base::port::Port;
+use common_lines::word::{is, number_between};
 use journal_cause::cause::JournalCause;
 use net_script::command::WireChange;
 use net_script::script::Script;
-use text_lines::word::{is, number_between};
 
-/// The event that words say.
+/// Returns the event that `words` describe.
+///
+/// # Errors
+/// The error of the words: `UnknownWord`, `NoSuchName` or `BadNumber`.
 pub fn read_words(script: &Script, words: &[&[u8]]) -> Result<Event, JournalCause>
     ensures { ReadsWords script.now (map (λ w. w.now) words.now) result }
 {
@@ -166,7 +169,7 @@ fn host_at(script: &Script, word: &[u8]) -> Result<u16, JournalCause>
     script.place_of_host(word).ok_or(JournalCause::NoSuchName)
 }
 
-// The number of a range that a word says.
+// The value of a word that is a number from `least` to `most`.
 fn number_in(word: &[u8], least: u64, most: u64) -> Result<u64, JournalCause>
     ensures { IsGoodField result (number_cause least most word.now)
         (λ n. (word.now ≡ decimal n) × (least ≤ n) × (n ≤ most)) }

@@ -3,9 +3,9 @@ use Rattle.journal_cause.specs.declared.cause.JournalCause.{JournalCause}
 use Rattle.journal_cause.specs.declared.cause.JournalCause.TheVariants.{BadHeader, UnknownWord, BadNumber}
 use Rattle.journal_cause.specs.declared.cause.JournalCause.TheVariants.{NoSuchName, NotLawful, NoEnd, Unfinished}
 
--- The words for what is wrong with a journal.
+-- The words for the errors in a journal.
 
--- the words for a cause
+-- the words for an error
 abbrev pub cause_text : JournalCause → List ℕ
 cause_text BadHeader = codes "bad header"
 cause_text UnknownWord = codes "unknown word"

@@ -1,32 +1,32 @@
-//! Why a text is no journal, or no legal one.
+//! The reasons why a text is not a journal, or not a legal one.
 
 ghost use Rattle.std.specs.Prelude.{◌≡◌};
-ghost use Rattle.text_lines.specs.declared.stop.Stop.TheVariants.{Fault};
+ghost use Rattle.common_lines.specs.declared.stop.Stop.TheVariants.{Fault};
 ghost use Rattle.journal_cause.specs.Causes.{cause_text};
 
-use text_lines::stop::Stop;
+use common_lines::stop::Stop;
 
-/// What is wrong with a line of a journal.
+/// An error in a line of a journal.
 #[derive(Clone, Copy, Debug, PartialEq, Eq)]
 pub enum JournalCause {
     /// The first line is not `journal 1`.
     BadHeader,
-    /// The line is none of an event, and not the last.
+    /// The line is not that of an event, and not the last line.
     UnknownWord,
-    /// A word is no number of its range.
+    /// A word is not a number in its range.
     BadNumber,
-    /// No switch, or no host if one is wanted, has the name.
+    /// No switch (or host, where the line names a host) has the name.
     NoSuchName,
-    /// The event is not lawful in the state after those before it.
+    /// The event is not legal in the state after the events before it.
     NotLawful,
-    /// No `end` came.
+    /// The line `end` is missing.
     NoEnd,
-    /// The state after all events is no end.
+    /// The state after all events is not the end of a run.
     Unfinished,
 }
 
 impl JournalCause {
-    /// The words for it in messages.
+    /// Returns the words for the error in messages.
     pub fn text(self) -> &'static str
         ensures { result.now ≡ cause_text self }
     {

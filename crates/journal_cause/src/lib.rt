@@ -1,7 +1,9 @@
-//! Why a text is no journal, or no legal one.
+//! autonet, files: the reasons why a journal is rejected.
 //!
-//! It stands on `text_lines`, whose stop a cause becomes. Its contract: each cause has its words. It stands apart from
-//! `journal`, so that the statuses of commands need not wait for the reader of journals.
+//! A text can fail to be a journal, or be a journal that is not legal.
+//!
+//! It depends on `common_lines`, whose `Stop` a reason converts into. Its contract: each reason has its words. It is
+//! separate from `journal`, so that proofs about exit statuses need not wait for those about the reader of journals.
 #![tactic(auto)]
 
 pub mod cause;

@@ -7,7 +7,7 @@ use Rattle.connectivity.specs.declared.conn.Conn.TheVariants.{Who, Loop, Good}
 use Rattle.connectivity.specs.Connections.{ConnectivityOf, is_end, is_same_end, probed, forgotten, asked, asked_by, streak_of, held_by, doubted, judged, judged_as, met}
 use Rattle.link_settling.specs.Measures.{answers_by, answers_left}
 use Rattle.link_settling.proofs.PortSound.{IsFarKnown}
-use Rattle.an_base.proofs.TestLemmas.{by_test}
+use Rattle.common_values.proofs.TestLemmas.{by_test}
 use Rattle.connectivity.proofs.EndLemmas.{same_end_is}
 use Rattle.link_settling.proofs.Basics.{hold_least, hold_most, failed_level, praised_level, same_end}
 

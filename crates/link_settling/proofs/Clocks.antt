@@ -9,7 +9,7 @@ use Rattle.port_monitor.specs.declared.port.Phase.TheVariants.{Dead, Checking, H
 use Rattle.port_monitor.specs.declared.port.Port.{Port}
 use Rattle.port_monitor.specs.Ports.{sampled, kept_up}
 use Rattle.link_settling.specs.Measures.{clocks_by, clocks_left}
-use Rattle.an_base.proofs.TestLemmas.{by_test}
+use Rattle.common_values.proofs.TestLemmas.{by_test}
 use Rattle.link_settling.proofs.Basics.{hold_most}
 
 -- a clock in the hold

@@ -3,7 +3,7 @@ use Rattle.std.proofs.Common.{◌≡◌, ◌∙◌, ◌⊎◌, inl, inr, ⊎_eli
 use Rattle.std.proofs.lemmas.Bool.{false≢true, cases_lt}
 use Rattle.std.proofs.lemmas.Option.{none-some, same_Some}
 use Rattle.an_base.specs.declared.body.Body.{Body}
-use Rattle.an_base.proofs.TestLemmas.{by_test}
+use Rattle.common_values.proofs.TestLemmas.{by_test}
 use Rattle.ordered_link.specs.Sending.{Sending, highest, is_outstanding, push, sent_by_push, send_next, next_to_send, send_again, forget}
 use Rattle.ordered_link.specs.Receiving.{untouched, last, received}
 use Rattle.link_settling.proofs.WayModel.{Way, Holds, is_held, way_of}

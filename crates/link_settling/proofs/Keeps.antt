@@ -10,7 +10,7 @@ use Rattle.an_base.specs.declared.body.Body.{Body}
 use Rattle.an_base.specs.declared.frame.Frame.{Frame}
 use Rattle.an_base.specs.declared.frame.Frame.TheVariants.{Carry, Ack, Probe, Reply}
 use Rattle.an_base.specs.declared.port.Sample.{Sample}
-use Rattle.an_base.proofs.TestLemmas.{by_test}
+use Rattle.common_values.proofs.TestLemmas.{by_test}
 use Rattle.connectivity.specs.Connections.{is_same_end}
 use Rattle.port_monitor.specs.Ports.{probe_of, speaks}
 use Rattle.port_monitor.specs.Histories.{History, externals, Replied, with_happening}

@@ -5,7 +5,7 @@ use Rattle.std.proofs.lemmas.Option.{slice_get_cases, same_Some, none-some}
 use Rattle.std.proofs.lemmas.List.{length-set, length-drop}
 use Rattle.an_base.specs.Values.{EndId}
 use Rattle.an_base.specs.declared.body.Body.{Body}
-use Rattle.an_base.proofs.TestLemmas.{by_test}
+use Rattle.common_values.proofs.TestLemmas.{by_test}
 use Rattle.ordered_link.specs.Sending.{Sending, highest, is_outstanding, is_waiting, may_send, next_to_send, send_next, with_pushed, push, sent_by_push, forget, send_again}
 use Rattle.ordered_link.specs.Receiving.{Receiving}
 use Rattle.ordered_link.specs.Session.{Numbered, put_out, numbered}

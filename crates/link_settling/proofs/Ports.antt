@@ -13,7 +13,7 @@ use Rattle.port_monitor.specs.Ports.{sampled, kept_up, entered, fallen, status_d
 use Rattle.port_monitor.specs.Histories.{History, Sampled, Replied, port_after}
 use Rattle.link_settling.specs.Measures.{HasNo, clocks_left, answers_left}
 use Rattle.link_settling.proofs.PortSound.{IsPort}
-use Rattle.an_base.proofs.TestLemmas.{by_test}
+use Rattle.common_values.proofs.TestLemmas.{by_test}
 use Rattle.link_settling.proofs.Basics.{hold_least, failed_level, praised_level}
 use Rattle.link_settling.proofs.Clocks.{no_host, no_switch, sampled_falls, clocks_most}
 use Rattle.link_settling.proofs.Answers.{known_probed, known_forgotten, known_judged, judged_falls, answers_most}

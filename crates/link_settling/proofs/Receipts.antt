@@ -2,7 +2,7 @@ use Rattle.std.specs.Prelude.{IsTrue, is_some, nat_le}
 use Rattle.std.proofs.Common.{◌≡◌, ◌∙◌, ◌⊎◌, inl, inr, ⊎_elim, sym, ap, subst, refl, ℕ, zero, suc, ◌+◌, ◌≤◌, ◌==◌, ◌||◌, arith, [], ◌∷◌, Option, Some, None, Bool, true, false, cond, length-append}
 use Rattle.std.proofs.lemmas.Bool.{false≢true, true≢false, eqb-true, eqb-false, ne_eqb, eq-eqb, leb-true, leb-false, le-leb, or_cases, cases_Bool, cases_eq}
 use Rattle.an_base.specs.declared.body.Body.{Body}
-use Rattle.an_base.proofs.TestLemmas.{by_test}
+use Rattle.common_values.proofs.TestLemmas.{by_test}
 use Rattle.ordered_link.specs.Receiving.{Receiving, last, accept, hold, come, verdict, follow, follow_with, has_come, received, follow_all, after_verdict, is_acknowledged}
 use Rattle.ordered_link.specs.declared.receiver.Verdict.TheVariants.{Accepted, Held, Repeat, Ahead}
 use Rattle.link_settling.proofs.WayModel.{is_held}

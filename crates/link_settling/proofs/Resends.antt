@@ -4,7 +4,7 @@ use Rattle.std.proofs.lemmas.Bool.{leb-true, ltb-true, leb-false, and_parts, and
 use Rattle.std.proofs.lemmas.Option.{same_Some, none-some}
 use Rattle.std.proofs.lemmas.List.{length-set, get_or-set_same, get_or-set_other}
 use Rattle.an_base.specs.Values.{EndId, PeerAt}
-use Rattle.an_base.proofs.TestLemmas.{by_test}
+use Rattle.common_values.proofs.TestLemmas.{by_test}
 use Rattle.ordered_link.specs.Sending.{Sending, highest, is_outstanding, send_again, due_from, due, is_due}
 use Rattle.ordered_link.specs.Session.{put_out}
 use Rattle.switch_core.specs.Switch.{SwitchOf}

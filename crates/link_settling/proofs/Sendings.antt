@@ -3,7 +3,7 @@ use Rattle.std.proofs.Common.{◌≡◌, ◌∙◌, ◌⊎◌, inl, inr, ⊎_eli
 use Rattle.std.proofs.lemmas.Bool.{leb-true, ltb-true, ltb-false, leb-false, and_parts, and_cases, cases_eq}
 use Rattle.std.proofs.lemmas.List.{get_or_push, get_or_append_left, get_or-drop, get_or-set_same, get_or-set_other, length-set, length-drop}
 use Rattle.an_base.specs.declared.body.Body.{Body}
-use Rattle.an_base.proofs.TestLemmas.{by_test}
+use Rattle.common_values.proofs.TestLemmas.{by_test}
 use Rattle.ordered_link.specs.Sending.{Sending, highest, is_outstanding, is_waiting, may_send, next_to_send, send_next, with_pushed, push, sent_by_push, forget, send_again}
 use Rattle.link_settling.specs.Directions.{last_sent}
 

@@ -6,7 +6,7 @@ use Rattle.an_base.specs.Frames.{CarryOf}
 use Rattle.an_base.specs.declared.body.Body.{Body}
 use Rattle.an_base.specs.declared.frame.Frame.TheVariants.{Carry, Ack, Reply}
 use Rattle.an_base.specs.declared.port.Sample.{Sample}
-use Rattle.an_base.proofs.TestLemmas.{by_test}
+use Rattle.common_values.proofs.TestLemmas.{by_test}
 use Rattle.ordered_link.specs.Sending.{Sending, unused, is_outstanding, send_next, next_to_send, forget, acknowledge, sent_by_ack}
 use Rattle.ordered_link.specs.Receiving.{Receiving, untouched, last, verdict, received, accepted_by, is_acknowledged}
 use Rattle.ordered_link.specs.Session.{put_out}

@@ -8,7 +8,7 @@ use Rattle.an_base.specs.declared.body.Body.{Body}
 use Rattle.an_base.specs.declared.frame.Frame.{Frame}
 use Rattle.an_base.specs.declared.frame.Frame.TheVariants.{Carry, Ack, Probe, Reply}
 use Rattle.an_base.specs.declared.port.Sample.{Sample}
-use Rattle.an_base.proofs.TestLemmas.{by_test}
+use Rattle.common_values.proofs.TestLemmas.{by_test}
 use Rattle.connectivity.specs.Connections.{is_same_end}
 use Rattle.port_monitor.specs.Histories.{Replied, with_happening}
 use Rattle.ordered_link.specs.Sending.{Sending, unused, highest, is_outstanding, due}

@@ -1,14 +1,13 @@
--- One direction of a link between two switches, with what was sent and received, and the steps that may
--- change it.
+-- One direction of a link between two switches, with what was sent and received, and the steps that can change it.
 
 use Rattle.std.specs.Prelude.{◌≡◌, ◌⊎◌, ◌+◌, ◌-◌, ◌≤◌, ◌<◌, ℕ, suc, List, [], ◌∷◌, slice_index_or, Option, Some, Bool, true, IsTrue}
 use Rattle.an_base.specs.declared.body.Body.{Body}
 use Rattle.ordered_link.specs.Sending.{Sending, unused, highest, is_outstanding, push, sent_by_push, send_next, next_to_send, send_again, acknowledge, sent_by_ack}
 use Rattle.ordered_link.specs.Receiving.{Receiving, untouched, last, verdict, received, is_acknowledged}
 
--- The tick; how long ago an outstanding body may have gone out, 3 if the sender has handled its clock of
--- this tick and else 4; the epochs of the sender and of the far end; what was sent and what was received in
--- the sender's epoch; and which bodies and acknowledgements of that epoch are under way
+-- The tick; how long ago an outstanding body can have gone out, 3 if the sender has handled its clock of this tick,
+-- otherwise 4; the epochs of the sender and of the far end; what was sent and what was received in the sender's
+-- epoch; and which bodies and acknowledgements of that epoch are under way.
 pub record Direction : Type 0 where
   pub now : ℕ
   pub late : ℕ
@@ -23,16 +22,16 @@ pub record Direction : Type 0 where
 abbrev pub last_sent : Sending → ℕ → ℕ
 last_sent sending number = slice_index_or sending.sent (number - sending.acked - 1) 0
 
--- of bodies, or of acknowledgements, no others come, and those under way stay
+-- no other bodies (or acknowledgements) come, and those under way stay
 pub record Stay (old new : ℕ → Bool) : Type 0 where
   pub no_others : (each : ℕ) → IsTrue (new each) → IsTrue (old each)
   pub stay : (each : ℕ) → IsTrue (old each) → IsTrue (new each)
 
--- a direction with what is under way in another
+-- a direction with what is under way in another one
 abbrev pub under_way : Direction → Direction → Direction
 under_way new old = record old { carry = new.carry; ack = new.ack }
 
--- the body that goes out, if one does, is under way; from base on it is not lost
+-- the body that goes out, if one does, is under way; from `base` on it is not lost
 pub record Gains (base : ℕ) (out : Option ℕ) (old new : Direction) : Type 0 where
   pub carry : (each : ℕ) → IsTrue (new.carry each) → IsTrue (old.carry each) ⊎ (out ≡ Some each)
   pub carry_on : (each : ℕ) → IsTrue (old.carry each) → IsTrue (new.carry each)
@@ -47,7 +46,7 @@ pub record Ticked (old new : Direction) : Type 0 where
   pub no_carry : (each : ℕ) → IsTrue (old.carry each) → ⊥
   pub no_ack : (each : ℕ) → IsTrue (old.ack each) → ⊥
 
--- the sender's part becomes this, and this body goes out
+-- the sender's part becomes `sending`, and the body `out` goes out
 pub record Sends (base : ℕ) (sending : Sending) (out : Option ℕ) (old new : Direction) : Type 0 where
   pub is : new ≡ under_way new (record old { sending = sending })
   pub gains : Gains base out old new
@@ -61,7 +60,7 @@ pub record Clocked (old new : Direction) : Type 0 where
   pub carries : Stay old.carry new.carry
   pub acks : Stay old.ack new.ack
 
--- an acknowledgement comes, which may be under way no more
+-- an acknowledgement comes; afterwards it can still be under way, or no longer
 pub record Acked (base number : ℕ) (old new : Direction) : Type 0 where
   pub there : IsTrue (old.ack number)
   pub is : new ≡ under_way new (record old { sending = acknowledge number old.now old.sending })
@@ -75,21 +74,21 @@ pub record Passed (old new : Direction) : Type 0 where
   pub carries : Stay old.carry new.carry
   pub acks : Stay old.ack new.ack
 
--- before base frames are lost, or come to a port that does not take them
+-- before `base`, frames are lost, or come to a port that does not take them
 pub record Drops (base : ℕ) (old new : Direction) : Type 0 where
   pub early : old.now < base
   pub is : new ≡ under_way new old
   pub carry : (each : ℕ) → IsTrue (new.carry each) → IsTrue (old.carry each)
   pub ack : (each : ℕ) → IsTrue (new.ack each) → IsTrue (old.ack each)
 
--- the far end is ahead, and a body is nothing to it
+-- the far end is ahead, and ignores a body
 pub record Ignored (old new : Direction) : Type 0 where
   pub ahead : old.epoch < old.far_epoch
   pub is : new ≡ under_way new old
   pub carry : (each : ℕ) → IsTrue (new.carry each) → IsTrue (old.carry each)
   pub acks : Stay old.ack new.ack
 
--- A body comes to the far end, whatever it says, which joins the sender's epoch if its own was lower
+-- A body comes to the far end, whatever it says; the far end joins the sender's epoch if its own was lower.
 pub record Received (base number : ℕ) (body : Body) (old new : Direction) : Type 0 where
   pub there : IsTrue (old.carry number)
   pub not_ahead : old.far_epoch ≤ old.epoch
@@ -105,15 +104,14 @@ pub record Received (base number : ℕ) (body : Body) (old new : Direction) : Ty
       → IsTrue (old.ack each) ⊎ (each ≡ last (received number body old.receiving))
   pub ack_on : (each : ℕ) → IsTrue (old.ack each) → IsTrue (new.ack each)
 
--- the far end joins a greater epoch by another of its links, or by a clock
+-- the far end joins a higher epoch by another of its links, or by a clock
 pub record FarJoins (old new : Direction) : Type 0 where
   pub greater : old.far_epoch < new.far_epoch
   pub is : new ≡ under_way new (record old { far_epoch = new.far_epoch; receiving = untouched })
   pub carries : Stay old.carry new.carry
   pub ack : (each : ℕ) → IsTrue (new.ack each) → IsTrue (old.ack each)
 
--- the sender joins a greater epoch, of which the far end has acknowledged nothing; its first bodies go out
--- next
+-- the sender joins a higher epoch, of which the far end has acknowledged nothing; its first bodies go out next
 pub record Joins (old new : Direction) : Type 0 where
   pub greater : old.epoch < new.epoch
   pub is : new ≡ under_way new (record old { epoch = new.epoch; sending = unused; receiving = new.receiving })
@@ -122,7 +120,7 @@ pub record Joins (old new : Direction) : Type 0 where
   pub no_carry : (each : ℕ) → IsTrue (new.carry each) → ⊥
   pub ack : (each : ℕ) → IsTrue (new.ack each) → (new.epoch ≤ old.far_epoch) × (each ≡ 0)
 
--- what may happen in this direction; `base` is the tick from which on what goes out is not lost
+-- what can happen in this direction; from the tick `base` on, what goes out is not lost
 pub data Step (base : ℕ) (old new : Direction) : Type 0 where
   ticks : Ticked old new → Step base old new
   pushes : (body : Body) → Sends base (push body old.now old.sending) (sent_by_push body old.sending) old new
@@ -158,12 +156,12 @@ pub record IsStill (old : Direction) : Type 0 where
   pub no_carry : (each : ℕ) → IsTrue (old.carry each) → ⊥
   pub no_ack : (each : ℕ) → IsTrue (old.ack each) → ⊥
 
--- one of these numbers
+-- the number is one of these numbers
 abbrev pub IsOneOf : ℕ → List ℕ → Type 0
 IsOneOf number [] = ⊥
 IsOneOf number (one ∷ more) = (one ≡ number) ⊎ IsOneOf number more
 
--- the bodies that go out are under way; from base on none is lost
+-- the bodies that go out are under way; from `base` on none is lost
 pub record SendsAll (base : ℕ) (numbers : List ℕ) (sending : Sending) (old new : Direction) : Type 0 where
   pub is : new ≡ under_way new (record old { sending = sending })
   pub carry : (each : ℕ) → IsTrue (new.carry each) → IsTrue (old.carry each) ⊎ IsOneOf each numbers

@@ -12,28 +12,28 @@ abbrev pub with_replies : EndId → List ℕ → History → History
 with_replies from [] history = history
 with_replies from (nonce ∷ nonces) history = Replied from nonce ∷ with_replies from nonces history
 
--- this number is among them
+-- the number is among these numbers
 abbrev pub IsAmong : ℕ → List ℕ → Type 0
 IsAmong nonce [] = ⊥
 IsAmong nonce (one ∷ more) = (one ≡ nonce) ⊎ IsAmong nonce more
 
--- whether a port asks, and is asked, after this history
+-- a port asks, and is asked, after this history
 abbrev pub Speaks : EndId → History → Type 0
 Speaks me history = (port_after me history).phase ≡ Switch
 
--- the number of the last probe
+-- the number of the last probe of a port
 abbrev pub nonce_after : EndId → History → ℕ
 nonce_after me history = (port_after me history).far.nonce
 
--- One tick at one end of a link that is up, without a loss: a clock, and then replies of the far end alone.
--- If both ends ask after their clocks of this tick, the probe of this end is answered
+-- One tick at one end of a link that is up, without a loss: a clock, and then only replies of the far end. If both
+-- ends ask after their clocks of this tick, the probe of this end is answered.
 pub record IsTick (me far : EndId) (before after far_after : History) : Type 0 where
   pub nonces : List ℕ
   pub happened : after ≡ with_replies far nonces (Sampled sample.Switch ∷ before)
   pub answered : Speaks me after → Speaks far far_after → IsAmong (nonce_after me after) nonces
 
--- So many ticks, one after another, after what had happened at both ends of a link of two switch ports when
--- the disturbance was over
+-- n ticks, one after another, after what had happened at both ends of a link of two switch ports when the
+-- disturbance was over.
 pub data Ticks (end far : EndId) : ℕ → History → History → Type 0 where
   begins : (here there : History) → HasNo sample.Host here → HasNo sample.Host there
       → Ticks end far 0 here there
@@ -41,6 +41,6 @@ pub data Ticks (end far : EndId) : ℕ → History → History → Type 0 where
       → IsTick end far here then_here then_there → IsTick far end there then_there then_here
       → Ticks end far (suc ticks) then_here then_there
 
--- so many ticks at the link of a host that is up: no frame comes
+-- n ticks at a link to a host that is up: no frame comes
 abbrev pub AreHostTicks : ℕ → (ℕ → History) → Type 0
 AreHostTicks ticks at = (tick : ℕ) → tick < ticks → at (suc tick) ≡ Sampled sample.Host ∷ at tick

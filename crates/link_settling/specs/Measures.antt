@@ -15,7 +15,7 @@ use Rattle.port_monitor.specs.declared.port.Port.{Port}
 use Rattle.port_monitor.specs.Ports.{state_of, peer_of}
 use Rattle.port_monitor.specs.Histories.{History, Sampled, Replied}
 
--- in how many clocks without a failure a port knows whether a host or a switch is there
+-- the number of clocks without a failure after which a port knows whether a host or a switch is there
 abbrev pub clocks_by : Phase → SkepticOf → ℕ
 clocks_by Dead status = suc (hold status) - status.run
 clocks_by Checking status = 1
@@ -25,7 +25,7 @@ clocks_by Switch status = 0
 abbrev pub clocks_left : Port → ℕ
 clocks_left port = clocks_by port.phase port.status
 
--- after how many answers in a row by this end it is the peer for good: another peer is doubted first
+-- the number of answers in a row by this end after which it is the peer; another peer is first given up
 abbrev pub answers_by : EndId → Conn → ConnectivityOf → ℕ
 answers_by own Who far = if is_end far.candidate own then hold far.skeptic - far.streak else hold far.skeptic
 answers_by own (Loop peer) far = if is_same_end own peer then 0 else suc (hold (failed far.skeptic))
@@ -40,11 +40,11 @@ HasNo wanted [] = Unit {0}
 HasNo wanted (Sampled sample ∷ history) = (sample ≡ wanted → ⊥) × HasNo wanted history
 HasNo wanted (Replied from nonce ∷ history) = HasNo wanted history
 
--- the state of a port that knows this end
+-- the state of a port that knows the end `peer`
 abbrev pub known_state : EndId → EndId → PortState
 known_state own peer = if peer.life.uid == own.life.uid then state.Loop else state.Good
 
--- a port knows this end of a switch as the other one: as one of this switch, or of another switch
+-- a port knows the end `peer` of a switch as the other end: of this switch, or of another one
 pub record Knows (own peer : EndId) (port : Port) : Type 0 where
   pub state : state_of port ≡ known_state own peer
   pub peer_is : peer_of port ≡ Some peer

@@ -6,9 +6,9 @@ use Rattle.an_base.specs.declared.port.Sample.TheVariants as sample
 use Rattle.port_monitor.specs.Histories.{History, Sampled, Replied}
 use Rattle.link_settling.specs.Links.{Speaks, nonce_after}
 
--- What one end of a link sees of a tick: what happened at its port and at that of the far end; whether each
--- switch has handled its clock of this tick; and whether the last probe of this end, or the far end's reply
--- to it, is under way, be it on the wire or in hand
+-- What one end of a link sees of a tick: what happened at its port and at that of the far end; whether each switch
+-- has handled its clock of this tick; and whether the last probe of this end, or the far end's reply to it, is
+-- under way, on the wire or in hand.
 pub record EndView : Type 0 where
   pub here : History
   pub there : History
@@ -29,7 +29,7 @@ tick_begins here there =
       reply = false;
     }
 
--- nothing else changes than what is under way, and that stays or more comes
+-- only what is under way changes: it stays, or more comes
 pub record Stays (old new : EndView) : Type 0 where
   pub probe_stays : IsTrue old.probe → IsTrue new.probe
   pub reply_stays : IsTrue old.reply → IsTrue new.reply
@@ -57,7 +57,7 @@ pub record FarClocks (old new : EndView) : Type 0 where
   }
   pub stays : Stays old new
 
--- this end handles a reply of the far end; that to its last probe may be under way no more
+-- this end handles a reply of the far end; if it replies to the last probe, it is possibly no longer under way
 pub record Hears (own far : EndId) (old new : EndView) : Type 0 where
   pub fresh : old.has_clocked ≡ true
   pub nonce : ℕ
@@ -72,7 +72,7 @@ pub record FarHears (own : EndId) (old new : EndView) : Type 0 where
   pub is : new ≡ record old { there = Replied own nonce ∷ old.there; probe = new.probe; reply = new.reply }
   pub stays : Stays old new
 
--- the far end handles the last probe of this one, which may be under way no more; if it speaks it replies
+-- the far end handles the last probe of this one, which is possibly no longer under way; if it speaks it replies
 pub record Answers (far : EndId) (old new : EndView) : Type 0 where
   pub fresh : old.far_has_clocked ≡ true
   pub is : new ≡ record old { probe = new.probe; reply = new.reply }
@@ -84,7 +84,7 @@ pub record Passes (old new : EndView) : Type 0 where
   pub is : new ≡ record old { probe = new.probe; reply = new.reply }
   pub stays : Stays old new
 
--- what may happen at one end; a frame is handled only after the clock of its tick
+-- what can happen at one end; a frame is handled only after the clock of its tick
 pub data EndStep (own far : EndId) (old new : EndView) : Type 0 where
   clocks : Clocks own old new → EndStep own far old new
   far_clocks : FarClocks old new → EndStep own far old new

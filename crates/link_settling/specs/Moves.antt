@@ -29,7 +29,7 @@ abbrev pub shown : Option ℕ → List ℕ
 shown None = []
 shown (Some number) = number ∷ []
 
--- What the sender of a session does in one tick, and the numbers of the bodies that go out, in their order
+-- What the sender of a session does in one tick, and the numbers of the bodies that go out, in their order.
 pub data Moves (now : ℕ) : Sending → List ℕ → Sending → Type 0 where
   resting : (old : Sending) → Moves now old [] old
   pushing : (body : Body) (old new : Sending) (numbers : List ℕ) → Moves now (push body now old) numbers new
@@ -39,8 +39,7 @@ pub data Moves (now : ℕ) : Sending → List ℕ → Sending → Type 0 where
   repeating : (number : ℕ) (old new : Sending) (numbers : List ℕ) → is_outstanding number old ≡ true
       → Moves now (send_again number now old) numbers new → Moves now old (number ∷ numbers) new
 
--- at most eight bodies are outstanding, all of them pushed; and, but for so many that may go out next, eight
--- are if some body waits
+-- at most eight bodies are outstanding, all of them pushed; if a body waits, at least 8 - `room` are outstanding
 pub record IsFilledBut (room : ℕ) (sending : Sending) : Type 0 where
   pub within : highest sending ≤ length sending.pushed
   pub window : length sending.sent ≤ 8
@@ -49,13 +48,13 @@ pub record IsFilledBut (room : ℕ) (sending : Sending) : Type 0 where
 abbrev pub IsFilled : Sending → Type 0
 IsFilled sending = IsFilledBut 0 sending
 
--- and so in the session of each port
+-- the window of the session of each port is filled
 abbrev pub AreFilled : SwitchOf → Type 0
 AreFilled switch = (port : ℕ) → IsFilled (switch.sendings port)
 
--- What a step does in the session of a port, of which this was sent before and this is received then. If
--- the window was filled but for so many (had), what goes out is permitted, and the window is filled but for
--- so many (has); of another window nothing is said.
+-- What a step does in the session of `port`, with what was sent before and what is then received. If the window was
+-- filled except for `had` bodies, what goes out is permitted, and the window is filled except for `has` bodies. Of
+-- any other window nothing is said.
 pub record WorksFrom (had has port now : ℕ) (sending : Sending) (receiving : Receiving) (step : Step)
     : Type 0 where
   pub tick : step.switch.tick ≡ now
@@ -64,7 +63,7 @@ pub record WorksFrom (had has port now : ℕ) (sending : Sending) (receiving : R
       → Moves now sending (carried_by port step.frames) (step.switch.sendings port)
   pub filled : IsFilledBut had sending → IsFilledBut has (step.switch.sendings port)
 
--- so of the session as the switch has it before the step
+-- as `WorksFrom`, of the session as the switch has it before the step
 abbrev pub Works : ℕ → ℕ → ℕ → SwitchOf → Step → Type 0
 Works had has port switch step =
     WorksFrom had has port switch.tick (switch.sendings port) (switch.receivings port) step
@@ -81,18 +80,18 @@ from_of (Ack epoch from to number) = from
 from_of (Probe from nonce) = from
 from_of (Reply from to nonce) = from
 
--- it says that it is from this life and from the port by which it goes out
+-- a frame says that it is from this life and from the port by which it goes out
 abbrev pub IsFrom : LifeId → Sent → Type 0
 IsFrom life sent = from_of sent.frame ≡ record { life = life; port = sent.port }
 
--- a step of a life, after which this is what happened at its ports: all that goes out is from this life, by
--- the port that it says
+-- after the step of `life`, `ports` is what happened at its ports, and all that goes out is from this life, by the
+-- port that it says
 pub record Keeps (life : LifeId) (ports : ℕ → History) (step : Step) : Type 0 where
   pub life_is : step.switch.life ≡ life
   pub ports_are : step.switch.ports ≡ ports
   pub out : All (IsFrom life) step.frames
 
--- nothing was sent at a port that has no link in this epoch
+-- nothing was sent at a port that has no link in the present epoch
 abbrev pub AreUnused : SwitchOf → Type 0
 AreUnused switch =
     (port : ℕ) → peer_among switch.card.links port ≡ None → switch.sendings port ≡ unused

@@ -16,10 +16,10 @@ ghost use Rattle.switch_core.specs.Steps.{clocked, framed, is_change_due, is_spe
 ghost use Rattle.link_settling.specs.Directions.{Direction, IsStill, Run, SendsAll, Starts};
 ghost use Rattle.link_settling.specs.Moves.{AreFilled, AreUnused, IsFilled, IsFresh, Keeps, Moves, Works, WorksFrom};
 
-/// At the end of a tick, three ticks and more after `base`, two ends of a link that have each sent a body in
-/// their epochs are in one epoch, and each body that was sent is acknowledged. From `base` on no frame is
-/// lost, nor comes to a port that does not take it; the lives had no session when the two runs began; and
-/// each run has for the far end's epoch the epoch of the other.
+/// At the end of a tick at least three ticks after `base`, two ends of a link that have each sent a body in their
+/// epochs are in one epoch, and each body that was sent is acknowledged. From `base` on no frame is lost, or comes
+/// to a port that does not take it; the lives had no session when the two runs began; and each run has for the far
+/// end's epoch the epoch of the other.
 pub fn bodies_are_acknowledged()
     ensures { (base : ℕ) (v0 v u0 u : Direction) → Starts v0 → Starts u0 → Run base v0 v → Run base u0 u
         → u.epoch ≡ v.far_epoch → v.epoch ≡ u.far_epoch → 1 ≤ highest v.sending → 1 ≤ highest u.sending
@@ -28,8 +28,8 @@ pub fn bodies_are_acknowledged()
         × (u.sending.acked ≡ highest u.sending) }
 {}
 
-/// What a switch does in a session is a run of steps of that direction, if the bodies that go out
-/// come to be under way. A run from one tick on is one from a later tick on.
+/// What a switch does in a session is a run of steps of that direction, if the bodies that go out come to be under
+/// way. A run from one tick on is also one from a later tick on.
 pub fn what_is_sent_is_a_run()
     ensures sent { (base : ℕ) (start v w : Direction) (ks : List ℕ) (sending : Sending) → Run base start v
         → Moves v.now v.sending ks sending
@@ -38,9 +38,9 @@ pub fn what_is_sent_is_a_run()
         → Run later start v }
 {}
 
-/// If its windows are filled, what a switch sends at a clock at each port is permitted in the session
-/// there, and after it no outstanding body went out four ticks ago or earlier. At a clock at which a change
-/// is due the sessions begin anew.
+/// If its windows are filled, what a switch sends at a clock at each port is permitted in the session there, and
+/// after it no outstanding body went out four ticks ago or earlier. At a clock at which a change is due the
+/// sessions start again.
 pub fn a_clock_works_in_each_session()
     ensures again { (port now : ℕ) (samples : List Sample) (s : SwitchOf)
         → is_change_due s (sampled_by now samples s) ≡ false
@@ -54,8 +54,8 @@ pub fn a_clock_works_in_each_session()
         → s.epoch ≢ last_epoch → WorksFrom 0 0 port now unused untouched (clocked now samples s) }
 {}
 
-/// A body that counts is received in the session of its port, and if the windows are filled what goes out
-/// at each port is permitted in the session there; one of a greater epoch begins all sessions anew before.
+/// A body that counts is received in the session of its port, and if the windows are filled what goes out at each
+/// port is permitted in the session there. A body of a higher epoch first starts all sessions again.
 pub fn a_body_works_in_each_session()
     ensures same { (q port : ℕ) (f : CarryOf) (s : SwitchOf) → counts s port f.from f.to ≡ true
         → f.epoch ≡ s.epoch
@@ -67,8 +67,8 @@ pub fn a_body_works_in_each_session()
         (at_port port (received f.number f.body untouched) (λ p. untouched) q) (framed port (Carry f) s) }
 {}
 
-/// An acknowledgement that counts is one in the session of its port, which then fills its window again;
-/// one of no outstanding body is nothing, and the other sessions are as they were.
+/// An acknowledgement that counts takes effect in the session of its port, which then fills its window again. One
+/// that names no outstanding body changes nothing, and the other sessions are as they were.
 pub fn an_acknowledgement_works_in_its_session()
     ensures counts { (port epoch n : ℕ) (from to : EndId) (s : SwitchOf) → counts s port from to ≡ true
         → epoch ≡ s.epoch
@@ -82,9 +82,8 @@ pub fn an_acknowledgement_works_in_its_session()
         → Works 0 0 q s (framed port (Ack epoch from to n) s) }
 {}
 
-/// What happened at the ports of a switch is what happened before, and with a clock a sample at each
-/// port, and with a reply that it is meant for this reply. Its life stays, and all that goes out by a
-/// port is from this life and port.
+/// The history of the ports of a switch grows only by a sample at each port with a clock, and by a reply that is
+/// meant for this port. Its life stays, and all that goes out by a port is from this life and port.
 pub fn what_happens_at_the_ports()
     ensures clock { (now : ℕ) (samples : List Sample) (s : SwitchOf)
         → Keeps s.life (sampled_by now samples s).ports (clocked now samples s) }
@@ -101,8 +100,8 @@ pub fn what_happens_at_the_ports()
         → Keeps s.life s.ports (framed port (Ack epoch from to n) s) }
 {}
 
-/// In each session eight bodies are outstanding if one waits: so it is when a switch is started, and
-/// after whatever happens to it. So if no body is outstanding, all are acknowledged.
+/// In each session eight bodies are outstanding if one waits, when a switch is started and after whatever happens
+/// to it. So if no body is outstanding, all are acknowledged.
 pub fn windows_are_filled()
     ensures start { (x : StartOf) → AreFilled (started_as x) }
     ensures clock { (now : ℕ) (samples : List Sample) (s : SwitchOf) → AreFilled s
@@ -113,8 +112,7 @@ pub fn windows_are_filled()
     ensures none { (t : Sending) → IsFilled t → t.acked ≡ highest t → is_unacked t ≡ false }
 {}
 
-/// A port that asks after a clock sends its probe, unless the switch is spent; and it answers each
-/// probe.
+/// A port that asks after a clock sends its probe, unless the switch is spent. A port that asks answers each probe.
 pub fn a_port_asks_and_answers()
     ensures asks { (now port : ℕ) (samples : List Sample) (s : SwitchOf) → 1 ≤ port → port ≤ 12
         → is_spent_by s (sampled_by now samples s) ≡ false
@@ -128,7 +126,7 @@ pub fn a_port_asks_and_answers()
         (record { port = port; frame = Reply (end_at s port) from nonce }) }
 {}
 
-/// At a port that has no link in the present epoch no session was used.
+/// At a port that has no link in the present epoch nothing was sent in the session.
 pub fn a_port_without_a_link_has_no_session()
     ensures start { (x : StartOf) → AreUnused (started_as x) }
     ensures clock { (now : ℕ) (samples : List Sample) (s : SwitchOf) → AreUnused s

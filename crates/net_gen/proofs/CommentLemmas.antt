@@ -5,9 +5,9 @@ use Rattle.std.specs.Fmt.{decimal}
 use Rattle.std.specs.List.{list_all}
 use Rattle.std.proofs.lemmas.Fmt.{length-decimal-le}
 use Rattle.std.proofs.lemmas.List.Elements.{All-append, All-cons, All-nil, All-weaker}
-use Rattle.text_lines.proofs.SpellLemmas.{IsPrinted, decimal_word, fixed_word}
-use Rattle.fabric_state.specs.declared.ending.Ending.{Ending}
-use Rattle.fabric_state.specs.declared.ending.Ending.TheVariants as ending
+use Rattle.common_lines.proofs.SpellLemmas.{IsPrinted, decimal_word, fixed_word}
+use Rattle.net_state.specs.declared.ending.Ending.{Ending}
+use Rattle.net_state.specs.declared.ending.Ending.TheVariants as ending
 use Rattle.net_gen.specs.Summary.{IsComment, counted, end_word, line_on}
 
 -- a byte of a comment

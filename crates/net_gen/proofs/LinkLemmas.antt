@@ -7,7 +7,7 @@ use Rattle.std.proofs.lemmas.List.Elements.{All-push, All-nil}
 use Rattle.std.proofs.lemmas.List.Folds.{find-append}
 use Rattle.std.proofs.lemmas.List.Sums.{fold_push}
 use Rattle.std.proofs.Math.Nat.{mod-one}
-use Rattle.an_base.proofs.ListLemmas.{range_more, some_is}
+use Rattle.common_values.proofs.ListLemmas.{range_more, some_is}
 use Rattle.net_graph.specs.declared.wiring.LinkAt.{LinkAt}
 use Rattle.net_graph.specs.Wires.{far_of, link_ends}
 use Rattle.net_graph.proofs.FarLemmas.{used_far, far_push}

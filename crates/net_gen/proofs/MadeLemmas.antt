@@ -7,8 +7,8 @@ use Rattle.std.proofs.lemmas.Bool.{cases_Bool}
 use Rattle.std.proofs.lemmas.List.{map_push, length_push}
 use Rattle.std.proofs.lemmas.List.Elements.{All-head, All-tail, Contains-append_cases}
 use Rattle.std.proofs.lemmas.List.FromFn.{length-map-range_with_len}
-use Rattle.an_base.proofs.ListLemmas.{places_more}
-use Rattle.an_base.proofs.MemberLemmas.{Any-from_map, Contains-cons_cases}
+use Rattle.common_values.proofs.ListLemmas.{places_more}
+use Rattle.common_values.proofs.MemberLemmas.{Any-from_map, Contains-cons_cases}
 use Rattle.an_base.specs.declared.event.Event.{Event}
 use Rattle.an_base.specs.declared.event.Event.TheVariants as event
 use Rattle.net_graph.specs.declared.wiring.SwitchAt.{SwitchAt}

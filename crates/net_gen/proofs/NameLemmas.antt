@@ -8,9 +8,9 @@ use Rattle.std.proofs.lemmas.Bool.{and_parts}
 use Rattle.std.proofs.lemmas.Bool.Decides.{nat_tests}
 use Rattle.std.proofs.lemmas.Fmt.{decimal_injective, digits_decimal, length-decimal-le}
 use Rattle.std.proofs.lemmas.List.FromFn.{length-range_with_len, get_or-range_with_len}
-use Rattle.an_base.proofs.MemberLemmas.{Any-from_map}
-use Rattle.text_lines.specs.Words.{is_name_byte, IsName}
-use Rattle.text_lines.proofs.WordLemmas.{own}
+use Rattle.common_values.proofs.MemberLemmas.{Any-from_map}
+use Rattle.net_names.specs.Words.{is_name_byte, IsName}
+use Rattle.common_lines.proofs.WordLemmas.{own}
 
 -- a digit is a byte of a name
 digit_of_name : (c : ℕ) → is_ascii_digit c ≡ true → is_name_byte c ≡ true

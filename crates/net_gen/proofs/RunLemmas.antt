@@ -4,9 +4,9 @@ use Rattle.std.proofs.Common.{◌≡◌, refl, ℕ, List, length}
 use Rattle.std.specs.Prelude.{count_by}
 use Rattle.an_base.specs.declared.event.Event.{Event}
 use Rattle.net_script.specs.Scripts.{ScriptOf}
-use Rattle.fabric_state.specs.declared.ending.Ending.{Ending}
-use Rattle.fabric_state.specs.declared.line.Line.{Line}
-use Rattle.fabric_world.specs.World.{begun, world_after}
+use Rattle.net_state.specs.declared.ending.Ending.{Ending}
+use Rattle.net_state.specs.declared.line.Line.{Line}
+use Rattle.net_world.specs.World.{begun, world_after}
 use Rattle.fabric_book.specs.Nets.{driver_lines}
 use Rattle.net_gen.specs.Summary.{is_delivery, is_drop, line_on, summary_text}
 use Rattle.net_gen.proofs.ToldLemmas.{IsOfPackets, all_told}

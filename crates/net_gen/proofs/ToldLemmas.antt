@@ -18,16 +18,16 @@ use Rattle.table_build.specs.Made.{number_in}
 use Rattle.switch_core.specs.Switch.{SwitchOf, finish_of, note_of}
 use Rattle.switch_core.specs.Steps.{Step}
 use Rattle.switch_core.specs.Bytes.{BytesOut, all_spelled}
-use Rattle.fabric_state.specs.declared.hand.Hand.{Hand}
-use Rattle.fabric_state.specs.declared.hand.Hand.TheVariants as hand
-use Rattle.fabric_state.specs.PortStates.{state_code}
-use Rattle.fabric_state.specs.Fabric.{station, held_bytes, side_of_port, switch_behind}
-use Rattle.fabric_state.specs.Effects.{released, put_out}
-use Rattle.fabric_state.specs.declared.line.Line.{Line}
-use Rattle.fabric_state.specs.declared.line.Line.TheVariants as line
-use Rattle.fabric_state.specs.Lines.{loss_line, lost_line, lost_lines, copy_line}
-use Rattle.fabric_world.specs.Lines.{shown_in, port_line, no_frame_lines, has_joined, join_lines, no_epoch_lines, finish_line, finish_lines, handle_lines, load_lines, lines_of, all_lines}
-use Rattle.fabric_world.specs.World.{WorldOf, handled, step}
+use Rattle.net_state.specs.declared.hand.Hand.{Hand}
+use Rattle.net_state.specs.declared.hand.Hand.TheVariants as hand
+use Rattle.net_state.specs.PortStates.{state_code}
+use Rattle.net_state.specs.Fabric.{station, held_bytes, side_of_port, switch_behind}
+use Rattle.net_state.specs.Effects.{released, put_out}
+use Rattle.net_state.specs.declared.line.Line.{Line}
+use Rattle.net_state.specs.declared.line.Line.TheVariants as line
+use Rattle.net_state.specs.Lines.{loss_line, lost_line, lost_lines, copy_line}
+use Rattle.net_world.specs.Lines.{shown_in, port_line, no_frame_lines, has_joined, join_lines, no_epoch_lines, finish_line, finish_lines, handle_lines, load_lines, lines_of, all_lines}
+use Rattle.net_world.specs.World.{WorldOf, handled, step}
 use Rattle.fabric_book.specs.Nets.{driver_line, driver_lines}
 use Rattle.fabric_book.proofs.DriverLemmas.{not_first}
 

@@ -1,5 +1,5 @@
--- The script made from a seed: a tree of switches with more links, a host at each switch, and packets before
--- and after a failure and its repair. Switches and hosts stand for their places, from 0.
+-- The script made from a seed: a tree of switches with more links, a host at each switch, and packets before and
+-- after a failure and its repair. Switches and hosts are given by their indices, from 0.
 
 use Rattle.std.specs.Prelude.{◌+◌, ◌-◌, ◌==◌, ◌%◌, ◌^◌, ℕ, zero, suc, not, Bool, List, [], ◌∷◌, ◌++◌, map, find, nat_lt, Option, Some, None, is_some, codes, fold, if◌then◌else◌}
 use Rattle.std.specs.Fmt.{decimal}
@@ -13,7 +13,7 @@ use Rattle.net_script.specs.declared.command.Command.{Command}
 use Rattle.net_script.specs.Scripts.{ScriptOf, empty_script}
 use Rattle.net_gen.specs.Drawn.{next_seed, drawn}
 
--- the name of the switch, and of the host, at a place: counted from 1
+-- the name of the switch, and of the host, at an index: counted from 1
 abbrev pub switch_name : ℕ → List ℕ
 switch_name place = codes "S" ++ decimal (place + 1)
 
@@ -23,11 +23,11 @@ host_name place = codes "H" ++ decimal (place + 1)
 abbrev pub switch_of : ℕ → SwitchAt
 switch_of place = record { uid = place + 1; had = 1 }
 
--- a host is on port 12 of the switch at its place
+-- a host at port 12 of the switch at its index
 abbrev pub host_of : ℕ → HostOn
 host_of place = record { uid = 2 ^ 40 + (place + 1); s = place; port = 12 }
 
--- the lowest of the ports 1 to 8 of a switch that no link uses
+-- the lowest of the ports 1 to 8 of a switch that no link uses, if any
 abbrev pub is_free : List LinkAt → ℕ → ℕ → Bool
 is_free links place port = not (is_some (far_of links place port))
 
@@ -37,7 +37,7 @@ lowest_free links place = find (is_free links place) (range_with_len 1 8)
 abbrev pub has_free : List LinkAt → ℕ → Bool
 has_free links place = is_some (lowest_free links place)
 
--- the link between such ports of two switches, if both have one
+-- the link between the lowest free ports of two switches, if both have one
 abbrev pub link_by : Option ℕ → Option ℕ → ℕ → ℕ → List LinkAt
 link_by (Some port) (Some far_port) place far_place =
     record { a = place; a_port = port; b = far_place; b_port = far_port } ∷ []
@@ -53,17 +53,16 @@ pub record DrawnOf : Type 0 where
   pub links : List LinkAt
   pub seed : ℕ
 
--- A switch is linked to one of those before it: the one that is drawn, or else the next one with a free port,
--- as if the first followed on the last.
+-- The order in which a switch tries those before it: from the drawn one upwards, and then from the first.
 abbrev pub from_on : ℕ → ℕ → List ℕ
 from_on first end = range_with_len first (end - first) ++ range_with_len 0 first
 
--- None: no switch before it has a free port, and it is not linked
+-- The links with one more, to a switch before this one; `None` if no switch before it has a free port.
 abbrev pub with_link_to : List LinkAt → Option ℕ → ℕ → List LinkAt
 with_link_to links None place = links
 with_link_to links (Some before) place = with_link links before place
 
--- the switch at this place is linked, by the next draw
+-- what is drawn once the switch at the index `place` is linked, by the next draw
 abbrev pub grown : DrawnOf → ℕ → DrawnOf
 grown so_far place =
     let seed : ℕ = next_seed so_far.seed in
@@ -73,7 +72,7 @@ grown so_far place =
       seed = seed;
     }
 
--- two switches are drawn of so many, and linked if they are different
+-- what is drawn once two of `count` switches are drawn, and linked if they are different
 abbrev pub joined : ℕ → DrawnOf → DrawnOf
 joined count so_far =
     let seed : ℕ = next_seed so_far.seed in
@@ -85,7 +84,7 @@ joined count so_far =
       seed = seed';
     }
 
--- the tree over so many switches, and then as many times a link between two that are drawn
+-- the tree over `count` switches, and then `count` times a link between two drawn switches
 abbrev pub tree_of : ℕ → ℕ → DrawnOf
 tree_of seed count = fold grown (record { links = []; seed = seed }) (range_with_len 1 (count - 1))
 
@@ -103,18 +102,18 @@ send_of count time place = record { time = time; event = event.Send place ((plac
 abbrev pub sends_at : ℕ → ℕ → List Command
 sends_at count time = map (send_of count time) (range_with_len 0 count)
 
--- the first link of the tree goes down and comes up again, if there is one
+-- the first link of the tree goes down and comes back, if there is one
 abbrev pub failure : ℕ → List Command
 failure count =
     if nat_lt 1 count
     then record { time = 20; event = event.Fail 0 1 } ∷ record { time = 60; event = event.Repair 0 1 } ∷ []
     else []
 
--- they send twice: before the failure, and after the repair
+-- all hosts send twice: before the failure, and after the repair
 abbrev pub commands_of : ℕ → List Command
 commands_of count = sends_at count 10 ++ failure count ++ sends_at count 80
 
--- the script of so many switches and hosts, with these links and commands
+-- the script with this many switches and hosts, and these links and commands
 abbrev pub made_of : ℕ → List LinkAt → ℕ → List Command → ScriptOf
 made_of switches links hosts commands = record empty_script {
   wires = record {

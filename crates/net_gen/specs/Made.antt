@@ -1,4 +1,4 @@
--- What private functions alone cite: how far a script is made.
+-- Definitions that only private functions cite: what has been made of a script so far.
 
 use Rattle.std.specs.Prelude.{◌≡◌, ◌≤◌, ℕ, List, ◌++◌, length, All, true, is_some}
 use Rattle.net_graph.specs.declared.wiring.LinkAt.{LinkAt}
@@ -8,18 +8,18 @@ use Rattle.net_script.specs.Commands.{last_time}
 use Rattle.net_script.specs.Scripts.{ScriptOf, restarts_of}
 use Rattle.net_gen.specs.Generated.{DrawnOf, made_of}
 
--- the script with these links, and with more commands
+-- a script with these links, and a script with more commands
 abbrev pub with_links : List LinkAt → ScriptOf → ScriptOf
 with_links links script = record script { wires = record script.wires { links = links } }
 
 abbrev pub with_commands : List Command → ScriptOf → ScriptOf
 with_commands commands script = record script { commands = script.commands ++ commands }
 
--- what has been drawn, if the links are those of a script
+-- what has been drawn, if the links are those of `script`
 abbrev pub drawn_of : ScriptOf → ℕ → DrawnOf
 drawn_of script seed = record { links = script.wires.links; seed = seed }
 
--- the links use none but the ports 1 to 8
+-- the link uses only the ports 1 to 8
 pub record IsLow (link : LinkAt) : Type 0 where
   pub a_most : link.a_port ≤ 8
   pub b_most : link.b_port ≤ 8
@@ -27,11 +27,11 @@ pub record IsLow (link : LinkAt) : Type 0 where
 abbrev pub AreLow : List LinkAt → Type 0
 AreLow = All IsLow
 
--- all but the commands is made for so many switches
+-- everything except the commands is made for `count` switches
 abbrev pub IsMade : ScriptOf → ℕ → Type 0
 IsMade script count = script ≡ made_of count script.wires.links count script.commands
 
--- a command may follow at this time, and there are few
+-- a command can follow at `time`, and there are few commands
 pub record CanSend (commands : List Command) (time : ℕ) : Type 0 where
   pub last : last_time commands ≤ time
   pub range : time ≤ 1000000

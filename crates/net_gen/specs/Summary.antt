@@ -4,15 +4,15 @@ use Rattle.std.specs.Prelude.{◌≡◌, ◌≤◌, ℕ, Bool, true, false, List
 use Rattle.std.specs.Fmt.{decimal}
 use Rattle.an_base.specs.declared.event.Event.{Event}
 use Rattle.net_script.specs.Scripts.{ScriptOf}
-use Rattle.fabric_state.specs.declared.ending.Ending.{Ending}
-use Rattle.fabric_state.specs.declared.ending.Ending.TheVariants as ending
-use Rattle.fabric_state.specs.declared.line.Line.{Line}
-use Rattle.fabric_state.specs.declared.line.Line.TheVariants as line
-use Rattle.fabric_world.specs.World.{begun, world_after}
-use Rattle.fabric_world.specs.Lines.{all_lines}
-use Rattle.fabric_world.specs.Solo.{IsSolo}
+use Rattle.net_state.specs.declared.ending.Ending.{Ending}
+use Rattle.net_state.specs.declared.ending.Ending.TheVariants as ending
+use Rattle.net_state.specs.declared.line.Line.{Line}
+use Rattle.net_state.specs.declared.line.Line.TheVariants as line
+use Rattle.net_world.specs.World.{begun, world_after}
+use Rattle.net_world.specs.Lines.{all_lines}
+use Rattle.net_world.specs.Solo.{IsSolo}
 
--- a packet came to its host, or was dropped
+-- the line reports that a packet was delivered; that a packet was dropped
 abbrev pub is_delivery : Line → Bool
 is_delivery (line.Moved packet place epoch entry exit (Some host)) = true
 is_delivery told = false
@@ -32,27 +32,28 @@ end_word (ending.Spent life) = codes "spent"
 abbrev pub counted : List ℕ → ℕ → List ℕ
 counted word number = codes " " ++ word ++ codes " " ++ decimal number
 
--- the line on a run that ended so, at a tick, with so many events and packets
+-- the line about a run that ended so, at a tick, with these numbers of events and packets
 abbrev pub line_on : Ending → ℕ → ℕ → ℕ → ℕ → List ℕ
 line_on end tick events delivered dropped =
     codes "# " ++ end_word end ++ counted (codes "tick") tick ++ counted (codes "events") events
     ++ counted (codes "delivered") delivered ++ counted (codes "dropped") dropped ++ codes "\n"
 
--- the line on a history with its end
+-- the line about a history with its end
 unfoldable pub summary_text : ScriptOf → List Event → Ending → List ℕ
 summary_text script history end =
     let lines : List Line = all_lines (begun script) history in
     line_on end (world_after script history).fabric.tick (length history) (count_by is_delivery lines)
     (count_by is_drop lines)
 
--- the text is that on the history that one thread makes
+-- `text` is the line about the history that one thread makes
 pub record IsSummary (script : ScriptOf) (text : List ℕ) : Type 0 where
   pub history : List Event
   pub end : Ending
   pub run : IsSolo script history end
   pub says : text ≡ summary_text script history end
 
--- a line of a comment: a number sign (35), spaces and printed bytes, at most 200 in all, and a line feed (10)
+-- `text` is a comment line: a number sign (35), spaces and printable bytes, at most 200 in total, and a line feed
+-- (10)
 pub record IsComment (text : List ℕ) : Type 0 where
   pub words : List ℕ
   pub parts : text ≡ 35 ∷ words ++ 10 ∷ []

@@ -5,7 +5,7 @@ ghost use Rattle.net_gen.specs.Drawn.{drawn, next_seed};
 
 use std::marker::Model;
 
-/// Numbers drawn in turn from a seed, which contracts see as the seed of the next one.
+/// A source of numbers drawn in turn from a seed. Contracts see it as the seed of the next number.
 #[derive(Clone, Copy, PartialEq, Eq)]
 pub struct Draw {
     seed: u64,
@@ -24,22 +24,22 @@ impl Model for Draw {
 }
 
 impl Draw {
-    /// The numbers drawn from this seed.
+    /// Creates the source of the numbers drawn from `seed`.
     pub fn new(seed: u64) -> Self
         ensures { result ≡ seed }
     {
         Draw { seed }
     }
 
-    /// The next number below a bound.
+    /// Returns the next number below `bound`, which must be at least 1.
     pub fn below(&mut self, bound: u8) -> u8
         requires { 0 < bound }
         ensures drawn { result ≡ drawn (next_seed self.old) bound }
         ensures below { result < bound }
         ensures seed { self.new ≡ next_seed self.old }
     {
-        // A linear congruential generator modulo 2^64, with the constants of Knuth's MMIX. Of the next seed
-        // the upper 31 bits are used.
+        // A linear congruential generator modulo 2^64, with the constants of Knuth's MMIX. The upper 31 bits of the
+        // next seed are used.
         self.seed = self
             .seed
             .wrapping_mul(6_364_136_223_846_793_005)

@@ -10,15 +10,15 @@ ghost use Rattle.net_gen.specs.Made.{AreLow, CanSend, HasFirst, IsMade, drawn_of
 
 use crate::draw::Draw;
 use an_base::event::Event;
-use an_base::memory::OutOfMemory;
 use an_base::place::Place;
 use an_base::port::Port;
-use an_base::text::{Word, push_decimal};
+use common_values::memory::OutOfMemory;
+use common_values::text::{Word, push_decimal};
 use net_graph::wiring::{HostOn, LinkAt, SwitchAt};
 use net_script::script::Script;
 use std::alloc::Global;
 
-// A letter with the number of a place, counted from 1.
+// Returns a letter with the number of an index, counted from 1.
 fn name(alloc: Global, letter: u8, place: u8) -> Result<Word, OutOfMemory>
     ensures { IfOk result (λ name. name ≡ letter ∷ decimal (place + 1)) }
 {
@@ -28,7 +28,7 @@ fn name(alloc: Global, letter: u8, place: u8) -> Result<Word, OutOfMemory>
     Ok(Word::new(name))
 }
 
-// Adds so many switches.
+// Adds `count` switches.
 fn add_switches(alloc: Global, script: &mut Script, count: u8) -> Result<(), OutOfMemory>
     requires empty { script.old ≡ empty_script }
     requires most { count ≤ 100 }
@@ -44,7 +44,7 @@ fn add_switches(alloc: Global, script: &mut Script, count: u8) -> Result<(), Out
     Ok(())
 }
 
-// Adds a host at port 12 of each of so many switches. Its identifier is 2^40 above that of the switch.
+// Adds a host at port 12 of each of `count` switches. Its identifier is 2^40 above that of the switch.
 fn add_hosts(alloc: Global, script: &mut Script, count: u8) -> Result<(), OutOfMemory>
     requires made { script.old ≡ made_of count script.old.wires.links 0 [] }
     requires low { AreLow script.old.wires.links }
@@ -62,7 +62,7 @@ fn add_hosts(alloc: Global, script: &mut Script, count: u8) -> Result<(), OutOfM
     Ok(())
 }
 
-// Whether no link uses a port.
+// Reports whether no link uses a port.
 fn is_free(script: &Script, place: Place, port: Port) -> bool
     requires none { script.now.wires.hosts ≡ [] }
     ensures { result ≡ is_free script.now.wires.links place port }
@@ -70,7 +70,7 @@ fn is_free(script: &Script, place: Place, port: Port) -> bool
     script.wiring().far(place, port).is_none()
 }
 
-// The lowest of the first ports of a switch that no link uses.
+// Returns the lowest of the first ports of a switch that no link uses.
 fn lowest_free(script: &Script, place: Place) -> Option<Port>
     requires none { script.now.wires.hosts ≡ [] }
     ensures { result ≡ lowest_free script.now.wires.links place }
@@ -102,7 +102,7 @@ fn link(script: &mut Script, a: Place, b: Place) -> Result<(), OutOfMemory>
     }
 }
 
-// The first switch with a free port among those of a range.
+// Returns the first switch of a range with a free port.
 fn free_among(script: &Script, first: u8, end: u8) -> Option<u8>
     requires none { script.now.wires.hosts ≡ [] }
     requires range { first ≤ end }
@@ -117,7 +117,7 @@ fn free_among(script: &Script, first: u8, end: u8) -> Option<u8>
     None
 }
 
-// The first switch with a free port, from one on, as if the first of so many followed on the last.
+// Returns the first switch with a free port, searching upwards from `first` and then from the lowest.
 fn first_with_free(script: &Script, first: u8, end: u8) -> Option<u8>
     requires none { script.now.wires.hosts ≡ [] }
     requires within { first < end }
@@ -146,7 +146,7 @@ fn grow(script: &mut Script, draw: &mut Draw, place: u8) -> Result<(), OutOfMemo
     }
 }
 
-// Links each of so many switches but the first to one of those before it.
+// Links each of `count` switches, except the first, to one of those before it.
 fn add_tree(script: &mut Script, draw: &mut Draw, count: u8) -> Result<(), OutOfMemory>
     requires made { script.old ≡ made_of count [] 0 [] }
     requires least { 1 ≤ count }
@@ -159,7 +159,7 @@ fn add_tree(script: &mut Script, draw: &mut Draw, count: u8) -> Result<(), OutOf
     Ok(())
 }
 
-// Draws two of so many switches, and links them if they are different.
+// Draws two of `count` switches, and links them if they are different.
 fn join(script: &mut Script, draw: &mut Draw, count: u8) -> Result<(), OutOfMemory>
     requires none { script.old.wires.hosts ≡ [] }
     requires least { 1 ≤ count }
@@ -176,7 +176,7 @@ fn join(script: &mut Script, draw: &mut Draw, count: u8) -> Result<(), OutOfMemo
     link(script, Place(a), Place(b))
 }
 
-// As many times as there are switches, links two that are drawn.
+// Links two drawn switches, as many times as there are switches.
 fn add_links(script: &mut Script, draw: &mut Draw, count: u8) -> Result<(), OutOfMemory>
     requires least { 1 ≤ count }
     requires made { script.old ≡ made_of count script.old.wires.links 0 [] }
@@ -189,7 +189,7 @@ fn add_links(script: &mut Script, draw: &mut Draw, count: u8) -> Result<(), OutO
     Ok(())
 }
 
-// Each host sends to the next one, and the last to the first.
+// Makes each host send to the next one, and the last to the first.
 fn add_sends(script: &mut Script, count: u8, time: u32) -> Result<(), OutOfMemory>
     requires made { IsMade script.old count }
     requires most { count ≤ 100 }
@@ -206,7 +206,7 @@ fn add_sends(script: &mut Script, count: u8, time: u32) -> Result<(), OutOfMemor
     Ok(())
 }
 
-// The first link goes down, at tick 20, and comes up again, at tick 60, if there is one.
+// Makes the first link fail at tick 20 and come back at tick 60, if there is a link.
 fn add_failure(script: &mut Script, count: u8) -> Result<(), OutOfMemory>
     requires made { IsMade script.old count }
     requires can { CanSend script.old.commands 20 }
@@ -222,7 +222,7 @@ fn add_failure(script: &mut Script, count: u8) -> Result<(), OutOfMemory>
     script.add_command(60, Event::Repair { s, port })
 }
 
-// Makes of an empty script the one that is drawn from a seed.
+// Turns an empty script into the one that is drawn from a seed.
 fn fill(alloc: Global, script: &mut Script, seed: u64, count: u8) -> Result<(), OutOfMemory>
     requires empty { script.old ≡ empty_script }
     requires least { 1 ≤ count }
@@ -239,8 +239,11 @@ fn fill(alloc: Global, script: &mut Script, seed: u64, count: u8) -> Result<(), 
     add_sends(script, count, 80)
 }
 
-/// The script that is drawn from a seed: a tree of so many switches with some more links, a host at each of
-/// them, and packets, at ticks 10 and 80, before and after a failure of the first link and its repair.
+/// Returns the script that is drawn from `seed`: a tree of `count` switches (1 to 100) with some more links, a host
+/// at each switch, and packets, at ticks 10 and 80, before and after a failure of the first link and its repair.
+///
+/// # Errors
+/// `OutOfMemory` if an allocation fails.
 pub fn script_of(alloc: Global, seed: u64, count: u8) -> Result<Script, OutOfMemory>
     requires least { 1 ≤ count }
     requires most { count ≤ 100 }

@@ -3,43 +3,43 @@
 ghost use Rattle.std.specs.Prelude.{◌≡◌, ◌++◌, count_by, length, IfOk, OnOk};
 ghost use Rattle.net_gen.specs.Summary.{IsComment, IsSummary, counted, end_word, is_delivery, is_drop, line_on};
 
-use an_base::memory::OutOfMemory;
-use an_base::text::push_decimal;
+use common_values::memory::OutOfMemory;
+use common_values::text::push_decimal;
 use fabric_book::solo::{ToldRun, solo};
-use fabric_state::ending::Ending;
-use fabric_state::line::Line;
 use net_script::script::Script;
+use net_state::ending::Ending;
+use net_state::line::Line;
 use std::alloc::Global;
 
-// Whether a line tells that a packet came to its host.
+// Reports whether a line says that a packet was delivered.
 fn is_delivery(line: &Line) -> bool
     ensures { result ≡ is_delivery line.now }
 {
     matches!(line, Line::Moved { host: Some(_), .. })
 }
 
-// Whether a line tells that a packet was dropped.
+// Reports whether a line says that a packet was dropped.
 fn is_drop(line: &Line) -> bool
     ensures { result ≡ is_drop line.now }
 {
     matches!(line, Line::Unsent { .. } | Line::Fell { .. })
 }
 
-// How many packets came to their hosts by these lines.
+// Returns the number of packets that these lines report as delivered.
 fn count_deliveries(lines: &[Line]) -> usize
     ensures { result ≡ count_by is_delivery lines.now }
 {
     lines.iter().filter(|line| is_delivery(line)).count()
 }
 
-// How many packets were dropped by these lines.
+// Returns the number of packets that these lines report as dropped.
 fn count_drops(lines: &[Line]) -> usize
     ensures { result ≡ count_by is_drop lines.now }
 {
     lines.iter().filter(|line| is_drop(line)).count()
 }
 
-// The word for an end.
+// Returns the word for an end.
 fn end_word(end: &Ending) -> &'static [u8]
     ensures { result.now ≡ end_word end.now }
 {
@@ -67,7 +67,7 @@ fn push_count(
     Ok(())
 }
 
-// How many packets came to their hosts, how many were dropped, and the tick at the end.
+// The number of packets that were delivered, the number that were dropped, and the tick at the end.
 #[derive(Clone, Copy)]
 struct Tally {
     delivered: usize,
@@ -75,7 +75,7 @@ struct Tally {
     tick: u32,
 }
 
-// Appends the line on a run, of so many events, that came to this.
+// Appends the line about a run with this many events and these counts.
 fn push_line(
     alloc: Global,
     text: &mut Vec<u8>,
@@ -98,7 +98,7 @@ fn push_line(
     Ok(())
 }
 
-// The line on a run with what was told of the events of its driver.
+// Returns the line about a run, given the lines that report the events of its driver.
 fn line_of_run(alloc: Global, all: &ToldRun) -> Result<Vec<u8>, OutOfMemory>
     ensures line { IfOk result (λ text. text.items ≡ line_on all.now.run.end all.now.tick
         (length all.now.run.journal) (count_by is_delivery all.now.told) (count_by is_drop all.now.told)) }
@@ -115,8 +115,11 @@ fn line_of_run(alloc: Global, all: &ToldRun) -> Result<Vec<u8>, OutOfMemory>
     Ok(text)
 }
 
-/// One line, as a comment, on how the run of a script on one thread ends: the end, its tick, how many events
-/// there were, how many packets were delivered, and how many were dropped.
+/// Returns one line, as a comment, that reports how the run of `script` on one thread ends: the end, its tick, the
+/// number of events, of packets delivered, and of packets dropped.
+///
+/// # Errors
+/// `OutOfMemory` if an allocation fails.
 pub fn summary(alloc: Global, script: &Script) -> Result<Vec<u8>, OutOfMemory>
     ensures summary { IfOk result (λ text. IsSummary script.now text.items) }
     ensures comment { IfOk result (λ text. IsComment text.items) }

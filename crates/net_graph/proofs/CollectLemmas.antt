@@ -15,7 +15,7 @@ use Rattle.net_graph.specs.Forest.{IsEntry, IsComponent}
 use Rattle.net_graph.specs.Collected.{AreBelow}
 use Rattle.net_graph.proofs.LevelLemmas.{some_or_none}
 use Rattle.net_graph.proofs.PlaceLemmas.{life_le, level_is}
-use Rattle.an_base.proofs.ListLemmas.{Any-front}
+use Rattle.common_values.proofs.ListLemmas.{Any-front}
 use Rattle.net_graph.proofs.NextLemmas.{left_count-less, left_count-most}
 
 -- the identifier of a switch that there is

@@ -8,9 +8,9 @@ use Rattle.an_base.specs.Tree.{IsClosed}
 use Rattle.net_graph.specs.declared.wiring.LinkAt.{LinkAt}
 use Rattle.net_graph.specs.Wires.{far_of, has_end, has_other_end, a_end, b_end, link_ends, host_end, IsLink, IsFar, Joins, Wires, IsWired, network, far_or_host}
 use Rattle.net_graph.specs.declared.wiring.Far.TheVariants.{Switch}
-use Rattle.an_base.proofs.MemberLemmas.{Contains-here, Contains-later, Contains-cons_cases}
-use Rattle.an_base.proofs.PairLemmas.{AllPairs-front}
-use Rattle.an_base.proofs.ListLemmas.{AllPairs-head, AllPairs-tail, Any-later, Any-cons_cases}
+use Rattle.common_values.proofs.MemberLemmas.{Contains-here, Contains-later, Contains-cons_cases}
+use Rattle.common_values.proofs.PairLemmas.{AllPairs-front}
+use Rattle.common_values.proofs.ListLemmas.{AllPairs-head, AllPairs-tail, Any-later, Any-cons_cases}
 
 -- pairs are equal where their parts are, and a test of both parts tells
 pub port_is : (a p s q : ℕ) → ((a == s) && (p == q)) ≡ true → ◌≡◌ {A = ℕ × ℕ} (a, p) (s, q)

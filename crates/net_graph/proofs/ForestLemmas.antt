@@ -12,7 +12,7 @@ use Rattle.net_graph.specs.Levels.{level_at, AreDistances}
 use Rattle.net_graph.specs.Next.{IsNext, IsNextOf}
 use Rattle.net_graph.specs.Forest.{IsEntry, IsComponent, RootsBelow, IsForest}
 use Rattle.net_graph.specs.Forested.{IsMarked, IsWithout, IsTreeBelow, AreTrees}
-use Rattle.an_base.proofs.ListLemmas.{Any-front, Any-weaker}
+use Rattle.common_values.proofs.ListLemmas.{Any-front, Any-weaker}
 use Rattle.net_graph.proofs.LevelLemmas.{some_or_none}
 use Rattle.net_graph.proofs.FarLemmas.{network_closed}
 use Rattle.net_graph.proofs.PlaceLemmas.{level_is}

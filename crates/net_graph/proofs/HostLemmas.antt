@@ -9,7 +9,7 @@ use Rattle.std.proofs.lemmas.List.Quantifiers.{position-Some}
 use Rattle.std.proofs.lemmas.Option.{slice_get-get_or}
 use Rattle.net_graph.specs.declared.wiring.HostOn.{HostOn}
 use Rattle.net_graph.specs.Wires.{host_of, host_end}
-use Rattle.an_base.proofs.MemberLemmas.{Any-from_map}
+use Rattle.common_values.proofs.MemberLemmas.{Any-from_map}
 use Rattle.net_graph.proofs.FarLemmas.{port_is, not_port}
 
 abbrev pub is_at : ℕ → ℕ → HostOn → Bool

@@ -11,9 +11,9 @@ use Rattle.net_graph.specs.declared.wiring.HostOn.{HostOn}
 use Rattle.net_graph.specs.declared.wiring.Far.{Far}
 use Rattle.net_graph.specs.declared.wiring.Far.TheVariants.{Switch, HostAt}
 use Rattle.net_graph.specs.Wires.{Wires, IsWired, IsAtFarSide, far_of, host_of, far_or_host, far_at, link_ends, host_end}
-use Rattle.an_base.proofs.MemberLemmas.{Contains-map, Contains-cons_cases}
-use Rattle.an_base.proofs.PairLemmas.{AllPairs-front}
-use Rattle.an_base.proofs.ListLemmas.{AllPairs-head, AllPairs-tail}
+use Rattle.common_values.proofs.MemberLemmas.{Contains-map, Contains-cons_cases}
+use Rattle.common_values.proofs.PairLemmas.{AllPairs-front}
+use Rattle.common_values.proofs.ListLemmas.{AllPairs-head, AllPairs-tail}
 use Rattle.net_graph.proofs.FarLemmas.{port_is, port_test, joined, joined_used, joins_far}
 use Rattle.net_graph.proofs.HostLemmas.{is_at}
 

@@ -10,7 +10,7 @@ use Rattle.an_base.proofs.LifeLemmas.{below_both}
 use Rattle.net_graph.specs.Wires.{Wires, IsWired, network}
 use Rattle.net_graph.specs.Entry.{LeadsOut, AreLinks}
 use Rattle.net_graph.specs.Forest.{IsEntry, IsMember, IsComponent, RootsBelow, IsForest}
-use Rattle.an_base.proofs.MemberLemmas.{one_rising}
+use Rattle.common_values.proofs.MemberLemmas.{one_rising}
 use Rattle.net_graph.proofs.FarLemmas.{network_closed, far_back}
 use Rattle.net_graph.proofs.WalkLemmas.{walk_back}
 use Rattle.net_graph.proofs.CollectLemmas.{uid_one}

@@ -13,7 +13,7 @@ use Rattle.net_graph.specs.declared.wiring.Far.TheVariants.{Switch, HostAt}
 use Rattle.net_graph.specs.declared.wiring.PortRow.{PortRow}
 use Rattle.net_graph.specs.Wires.{Wires, IsWired, IsSwitch, IsLink, IsHost, IsWithin, IsAtFarSide, far_of, host_of, far_or_host, far_at, has_end, has_other_end, a_end, b_end, link_ends, host_end, used_ports, uids}
 use Rattle.net_graph.specs.Table.{cell_at, Puts, IsKept}
-use Rattle.an_base.proofs.MemberLemmas.{Contains-map, Any-from_map}
+use Rattle.common_values.proofs.MemberLemmas.{Contains-map, Any-from_map}
 use Rattle.net_graph.proofs.FarLemmas.{port_is, joined, joined_used, used_far, far_new_a, far_new_b, far_new_other, far_is}
 use Rattle.net_graph.proofs.WiredLemmas.{switch_wired, link_wired, host_wired}
 use Rattle.net_graph.proofs.HostLemmas.{is_at, host_found, no_host, host_here, host_other}

@@ -7,8 +7,8 @@ use Rattle.net_graph.specs.declared.wiring.SwitchAt.{SwitchAt}
 use Rattle.net_graph.specs.declared.wiring.LinkAt.{LinkAt}
 use Rattle.net_graph.specs.declared.wiring.HostOn.{HostOn}
 use Rattle.net_graph.specs.Wires.{Wires, IsWired, IsSwitch, IsLink, IsHost, a_end, b_end, link_ends, host_end, used_ports, uids}
-use Rattle.an_base.proofs.MemberLemmas.{Contains-cons_cases}
-use Rattle.an_base.proofs.PairLemmas.{apart_insert, apart_push}
+use Rattle.common_values.proofs.MemberLemmas.{Contains-cons_cases}
+use Rattle.common_values.proofs.PairLemmas.{apart_insert, apart_push}
 
 -- no wiring keeps all rules
 pub no_wires_kept : IsWired (record { switches = []; links = []; hosts = [] })

@@ -6,9 +6,9 @@ use Rattle.net_graph.specs.Levels.{level_at}
 use Rattle.net_graph.specs.Next.{left_count}
 use Rattle.net_graph.specs.Forest.{IsEntry}
 
--- The entries of a component while they are collected by rising identifier.
+-- The entries of a component while they are collected in ascending order of identifier.
 
--- the entries are those of the members with identifiers below from
+-- `entries` are the entries of the members whose identifiers are below `from`
 pub record AreBelow (wires : Wires) (levels : List (Option ℕ)) (top from : ℕ)
     (entries : List EntryOf) : Type 0 where
   pub each :

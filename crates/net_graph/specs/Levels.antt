@@ -4,16 +4,16 @@ use Rattle.an_base.specs.declared.limits.TheConstants.{MOST_LEVEL}
 
 -- The distances of nodes to a root, found round by round.
 
--- the level of a node, if it has one so far
+-- the level of `node`, if it has one so far
 abbrev pub level_at : List (Option ℕ) → ℕ → Option ℕ
 level_at levels node = slice_index_or levels node None
 
--- some neighbour of the node has this level
+-- some neighbour of `node` has the level `level`
 abbrev pub HasNeighbourAt : Network → List (Option ℕ) → (level node : ℕ) → Type 0
 HasNeighbourAt network levels level node =
     (other : ℕ) × Neighbours network node other × (level_at levels other ≡ Some level)
 
--- the nodes without a level that have a neighbour at one level get the next one, and nothing else changes
+-- every node without a level that has a neighbour at `level` gets the level `level` + 1, and nothing else changes
 pub record IsRound (network : Network) (old new : List (Option ℕ)) (level : ℕ) : Type 0 where
   pub kept :
       (node found_level : ℕ) → level_at old node ≡ Some found_level → level_at new node ≡ Some found_level
@@ -23,7 +23,7 @@ pub record IsRound (network : Network) (old new : List (Option ℕ)) (level : �
   pub whole :
       (node : ℕ) → node < network.count → level_at new node ≡ None → HasNeighbourAt network old level node → ⊥
 
--- the levels are the distances to the root `top`, up to one level
+-- the levels are the distances to the root `top`, as far as these are at most `level`
 pub record IsReached (network : Network) (top : ℕ) (levels : List (Option ℕ)) (level : ℕ) : Type 0 where
   pub found :
       (node found_level : ℕ) → level_at levels node ≡ Some found_level
@@ -40,7 +40,7 @@ pub record AreDistances (network : Network) (top : ℕ) (levels : List (Option �
   pub none :
       (node steps : ℕ) → node < network.count → level_at levels node ≡ None → Walk network steps node top → ⊥
 
--- the same for the nodes below end
+-- as `IsRound`, but only for the nodes below `end`
 pub record IsRoundTo (network : Network) (old new : List (Option ℕ)) (level end : ℕ) : Type 0 where
   pub kept :
       (node found_level : ℕ) → level_at old node ≡ Some found_level → level_at new node ≡ Some found_level

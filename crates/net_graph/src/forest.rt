@@ -1,4 +1,4 @@
-//! All components with their trees. Roots come by rising identifier, and each takes its component out of the rest.
+//! All components with their trees. Roots come in ascending order, and each removes its component from the rest.
 
 ghost use Rattle.std.specs.Prelude.{◌≡◌, ◌<◌, ℕ, length, IfOk, None, Some};
 ghost use Rattle.net_graph.specs.Levels.{level_at};
@@ -10,7 +10,7 @@ use crate::next::next_from;
 use crate::tree::component_of;
 use crate::wiring::Wiring;
 use an_base::entry::Entries;
-use an_base::memory::OutOfMemory;
+use common_values::memory::OutOfMemory;
 use std::alloc::Global;
 
 // A mark for each switch. It stays while the switch is in no component that was found.
@@ -38,10 +38,14 @@ fn take_out(marks: &mut Vec<Option<u8>>, levels: &[Option<u8>])
     }
 }
 
-/// The components of the links by rising root, each with the tree of shortest walks to its least
-/// life. Each switch is in one of them, in its first boot, and proposes the number that it had last.
-/// A host's port leads nowhere, and a link of a switch to itself is no link of its entry. If no
-/// memory is found, the answer is `OutOfMemory`.
+/// Returns the components of the links in ascending order of root, each with the tree of shortest
+/// walks to its lowest life.
+///
+/// Each switch is in one of them, in its first boot, and proposes the number that it had last. A
+/// host's port leads nowhere, and the entry of a switch omits links from the switch to itself.
+///
+/// # Errors
+/// `OutOfMemory` if an allocation fails.
 pub fn trees(alloc: Global, wiring: &Wiring) -> Result<Vec<Entries>, OutOfMemory>
     ensures { IfOk result (λ forest. IsForest wiring.now forest.items) }
 {

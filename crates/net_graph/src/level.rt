@@ -1,4 +1,4 @@
-//! Distances to a root, level by level: each pass over the switches gives the next one, until a pass gives none.
+//! Distances to a root, level by level: each pass over the switches finds the next level, until a pass finds none.
 
 ghost use Rattle.std.specs.Prelude.{◌≡◌, ℕ, ◌+◌, ◌<◌, ◌≤◌, ◌↔◌, length, Some, None, IsTrue, IsSome, is_some, count_by, IfOk, slice_set};
 ghost use Rattle.std.specs.Bool.{OnTrue, OnFalse};
@@ -6,19 +6,19 @@ ghost use Rattle.net_graph.specs.Wires.{IsWired, network};
 ghost use Rattle.net_graph.specs.Levels.{level_at, HasNeighbourAt, IsRound, IsReached, AreDistances};
 
 use crate::wiring::Wiring;
-use an_base::memory::OutOfMemory;
 use an_base::place::Place;
 use an_base::port::Port;
+use common_values::memory::OutOfMemory;
 use std::alloc::Global;
 
-/// The level of x, if it has one.
+/// Returns the level of `x`, if it has one.
 pub fn level_of(levels: &[Option<u8>], x: Place) -> Option<u8>
     ensures { result ≡ level_at levels.now x }
 {
     levels.get(usize::from(x)).copied().flatten()
 }
 
-/// Whether x has this level.
+/// Reports whether `x` has the level `level`.
 pub fn has_level(levels: &[Option<u8>], level: u8, x: Place) -> bool
     ensures { IsTrue result ↔ (level_at levels.now x ≡ Some level) }
 {
@@ -92,7 +92,12 @@ fn no_levels(alloc: Global, count: u8) -> Result<Vec<Option<u8>>, OutOfMemory>
     Ok(levels)
 }
 
-/// The distance of each switch to the root, if there is a walk to it.
+/// Returns the distance of each switch to `root`, or `None` for a switch without a walk there.
+///
+/// The caller must pass a switch of `wiring`.
+///
+/// # Errors
+/// `OutOfMemory` if an allocation fails.
 pub fn distances_to(
     alloc: Global,
     wiring: &Wiring,

@@ -1,9 +1,10 @@
-//! The wiring of a network: switches, links between their ports and hosts on them, with what is at
-//! the far side of each port; and the trees of its components.
+//! autonet, files: the wiring of a network, and the spanning trees of its components.
 //!
-//! It stands on `an_base`. Its contract: a `Wiring` keeps all identifiers different and no port used
-//! twice; `forest::trees` gives the components of the links by rising root, each with its tree of
-//! shortest walks, and there is only one such list.
+//! A wiring has switches, links between their ports, and hosts on ports; it finds what is at the far side of a port.
+//!
+//! It depends on `an_base`. Its contract: in a `Wiring` all identifiers are different and no port is used twice;
+//! `forest::trees` returns the components of the links in ascending order of root, each with its tree of shortest
+//! walks, and there is only one such list.
 #![tactic(auto)]
 
 pub mod forest;

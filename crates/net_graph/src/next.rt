@@ -1,4 +1,4 @@
-//! How code goes over switches by rising identifier, though they stand by place: it searches the next one each time.
+//! Iterates over switches in ascending order of identifier, though they are ordered by index: it searches for each.
 
 ghost use Rattle.std.specs.Prelude.{◌≡◌, ℕ, ◌+◌, ◌<◌, ◌≤◌, ◌↔◌, length, Some, None, IsTrue, is_some};
 ghost use Rattle.net_graph.specs.Levels.{level_at};
@@ -44,7 +44,7 @@ fn lesser(
     }
 }
 
-/// Of the switches that have a level, the one of least identifier from this one on.
+/// Returns the switch with the lowest identifier, from `from` on, among those that have a level.
 pub fn next_from(wiring: &Wiring, levels: &[Option<u8>], from: u64) -> Option<Place>
     ensures { IsNextOf wiring.now levels.now from (length wiring.now.switches) result }
 {

@@ -1,4 +1,4 @@
-//! The entries of one component, by rising identifier: of each switch its place in the tree and its links.
+//! The entries of one component in ascending order of identifier: each switch's place in the tree and its links.
 
 ghost use Rattle.std.specs.Prelude.{◌≡◌, ◌≢◌, ℕ, ◌+◌, ◌-◌, ◌<◌, ◌≤◌, ◌↔◌, length, Some, None, IsTrue, IfSome, IfNone, IfOk};
 ghost use Rattle.an_base.specs.Tree.{IsPlace};
@@ -15,10 +15,10 @@ use crate::wiring::Wiring;
 use an_base::entry::{Entries, Entry};
 use an_base::life::End;
 use an_base::links::{Links, PortLink};
-use an_base::memory::OutOfMemory;
 use an_base::place::Place;
 use an_base::port::Port;
 use an_base::position::Position;
+use common_values::memory::OutOfMemory;
 use std::alloc::Global;
 
 // The better of the best so far and what a port leads to.
@@ -122,7 +122,13 @@ fn entry_of(wiring: &Wiring, levels: &[Option<u8>], root: Place, x: Place, level
     }
 }
 
-/// The component of the root, with its tree.
+/// Returns the component of `root`, with its tree.
+///
+/// The caller must pass the distances to `root` as `levels`, and the switch with the lowest identifier
+/// of the component as `root`.
+///
+/// # Errors
+/// `OutOfMemory` if an allocation fails.
 pub fn component_of(
     alloc: Global,
     wiring: &Wiring,

@@ -1,4 +1,4 @@
-//! The wiring. Beside links and hosts, as they were added, it keeps a table of far sides to look ports up in.
+//! The wiring. In addition to links and hosts, as they were added, it keeps a table of the far side of each port.
 
 ghost use Rattle.std.specs.Prelude.{◌≡◌, ◌≢◌, ◌<◌, ◌≤◌, ◌^◌, ◌↔◌, [], ◌∷◌, ◌++◌, length, Any, Contains, IfSome, MatchOption, IsTrue, OnOk, OnErr};
 ghost use Rattle.an_base.specs.declared.limits.TheConstants.{MOST_NUMBER, MOST_SWITCHES};
@@ -6,13 +6,13 @@ ghost use Rattle.net_graph.specs.Wires.{a_end, b_end, far_at, far_of, had_of, ho
 ghost use Rattle.net_graph.specs.Table.{cell_at, Puts};
 
 use an_base::life::Life;
-use an_base::memory::OutOfMemory;
 use an_base::place::Place;
 use an_base::port::Port;
+use common_values::memory::OutOfMemory;
 use std::alloc::Global;
 use std::marker::Model;
 
-/// The most hosts of a network.
+/// The maximum number of hosts of a network.
 pub const MOST_HOSTS: usize = 1000;
 
 /// A switch of a network.
@@ -31,7 +31,7 @@ pub struct LinkAt {
     pub a: Place,
     /// The port at that end, 1 to 12.
     pub a_port: Port,
-    /// The switch at the other end; it may be the same switch.
+    /// The switch at the other end; it can be the same switch.
     pub b: Place,
     /// The port at the other end, 1 to 12.
     pub b_port: Port,
@@ -51,7 +51,7 @@ pub struct HostOn {
 /// What is at the far side of a switch's port.
 #[derive(Clone, Copy, PartialEq, Eq)]
 pub enum Far {
-    /// A port of a switch, which may be the same switch.
+    /// A port of a switch, which can be the same switch.
     Switch {
         /// The switch.
         s: Place,
@@ -60,7 +60,7 @@ pub enum Far {
     },
     /// A host.
     HostAt {
-        /// The host, by its place.
+        /// The index of the host.
         host: u16,
     },
 }
@@ -102,8 +102,8 @@ fn put(rows: &mut Vec<PortRow>, s: Place, port: Port, far: Far)
     rows[usize::from(s)].cells[usize::from(port)] = Some(far);
 }
 
-/// Switches, the links between their ports, and the hosts on their ports. Identifiers are all
-/// different, and no port of a switch is used twice.
+/// Switches, the links between their ports, and the hosts on their ports. All identifiers are
+/// different, and no port is used twice.
 #[derive(Drop)]
 pub struct Wiring {
     switches: Vec<SwitchAt>,
@@ -132,7 +132,7 @@ impl Model for Wiring {
 }
 
 impl Wiring {
-    /// No switches, no links, no hosts.
+    /// Creates a wiring without switches, links and hosts.
     pub fn new(alloc: Global) -> Self
         ensures { result ≡ record { switches = []; links = []; hosts = [] } }
     {
@@ -144,7 +144,7 @@ impl Wiring {
         }
     }
 
-    /// The switches by place, at most 126.
+    /// Returns the switches, at most 126, in the order in which they were added.
     pub fn switches(&self) -> &[SwitchAt]
         ensures all { result.now ≡ self.now.switches }
         ensures wired { IsWired self.now }
@@ -152,7 +152,7 @@ impl Wiring {
         &self.switches
     }
 
-    /// The links in the order in which they were added.
+    /// Returns the links in the order in which they were added.
     pub fn links(&self) -> &[LinkAt]
         ensures all { result.now ≡ self.now.links }
         ensures wired { IsWired self.now }
@@ -160,7 +160,7 @@ impl Wiring {
         &self.links
     }
 
-    /// The hosts by place, at most 1,000.
+    /// Returns the hosts, at most 1,000, in the order in which they were added.
     pub fn hosts(&self) -> &[HostOn]
         ensures all { result.now ≡ self.now.hosts }
         ensures wired { IsWired self.now }
@@ -168,7 +168,7 @@ impl Wiring {
         &self.hosts
     }
 
-    /// How many switches there are, 0 to 126.
+    /// Returns the number of switches, 0 to 126.
     pub fn count(&self) -> u8
         ensures count { result ≡ length self.now.switches }
         ensures wired { IsWired self.now }
@@ -176,7 +176,7 @@ impl Wiring {
         self.switches().len() as u8
     }
 
-    /// The identifier of a switch, below 2^48.
+    /// Returns the identifier, below 2^48, of the switch `s`, which must be in the wiring.
     pub fn uid(&self, s: Place) -> u64
         requires { s < length self.now.switches }
         ensures uid { result ≡ uid_of self.now.switches s }
@@ -185,7 +185,7 @@ impl Wiring {
         self.switches()[usize::from(s)].uid
     }
 
-    /// The number that a switch had last, 1 to 126.
+    /// Returns the number, 1 to 126, that the switch `s` had last. It must be in the wiring.
     pub fn had(&self, s: Place) -> u8
         requires { s < length self.now.switches }
         ensures had { result ≡ had_of self.now s }
@@ -195,7 +195,7 @@ impl Wiring {
         self.switches()[usize::from(s)].had
     }
 
-    /// The life of a switch, in its first boot.
+    /// Returns the life of the switch `s` in its first boot. It must be in the wiring.
     pub fn life(&self, s: Place) -> Life
         requires { s < length self.now.switches }
         ensures { result ≡ (network self.now).life s }
@@ -203,22 +203,23 @@ impl Wiring {
         Life::new(self.uid(s), 1)
     }
 
-    /// Whether a switch or a host has this identifier.
+    /// Reports whether a switch or a host has the identifier `uid`.
     pub fn has_uid(&self, uid: u64) -> bool
         ensures { IsTrue result ↔ Contains (uids self.now) uid }
     {
         is_switch(&self.switches, uid) || is_host(&self.hosts, uid)
     }
 
-    /// Whether a link or a host is on this port of this switch. It answers for all values.
+    /// Reports whether a link or a host is on `port` of the switch `s`. It accepts all values.
     pub fn is_used(&self, s: Place, port: Port) -> bool
         ensures { IsTrue result ↔ Contains (used_ports self.now) (s, port) }
     {
         self.far(s, port).is_some()
     }
 
-    /// What is at the far side of this port of this switch, if a link or a host is on it. It
-    /// answers for all values.
+    /// Returns what is at the far side of `port` of the switch `s`, if a link or a host is on it.
+    ///
+    /// It accepts all values.
     pub fn far(&self, s: Place, port: Port) -> Option<Far>
         ensures far { result ≡ far_at self.now s port }
         ensures meaning { MatchOption result
@@ -241,8 +242,12 @@ impl Wiring {
         }
     }
 
-    /// Adds a switch without links and hosts, at the next place. If no memory is found, nothing is
-    /// added.
+    /// Adds `switch`, without links and hosts, at the next index.
+    ///
+    /// The caller must pass a valid switch with a new identifier, and at most 125 must be there.
+    ///
+    /// # Errors
+    /// `OutOfMemory` if an allocation fails. The wiring is then unchanged.
     pub fn add_switch(&mut self, switch: SwitchAt) -> Result<(), OutOfMemory>
         requires room { length self.old.switches < MOST_SWITCHES }
         requires switch { IsSwitch switch }
@@ -261,8 +266,10 @@ impl Wiring {
         Ok(())
     }
 
-    /// Adds a link between two different ports that are not used. If no memory is found, nothing
-    /// is added.
+    /// Adds `link`. The caller must pass a link between two different unused ports of the wiring.
+    ///
+    /// # Errors
+    /// `OutOfMemory` if the allocation fails. The wiring is then unchanged.
     pub fn add_link(&mut self, link: LinkAt) -> Result<(), OutOfMemory>
         requires link { IsLink (length self.old.switches) link }
         requires a_free { ¬ Contains (used_ports self.old) (link.a, link.a_port) }
@@ -285,8 +292,13 @@ impl Wiring {
         Ok(())
     }
 
-    /// Adds a host on a port that is not used, at the next place. If no memory is found, nothing is
-    /// added.
+    /// Adds `host` at the next index.
+    ///
+    /// The caller must pass a valid host with a new identifier on an unused port, and at most 999 must
+    /// be there.
+    ///
+    /// # Errors
+    /// `OutOfMemory` if the allocation fails. The wiring is then unchanged.
     pub fn add_host(&mut self, host: HostOn) -> Result<(), OutOfMemory>
         requires room { length self.old.hosts < 1000 }
         requires host { IsHost (length self.old.switches) host }

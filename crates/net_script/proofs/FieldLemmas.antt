@@ -4,13 +4,13 @@ use Rattle.std.proofs.lemmas.Bool.Decides.{Decides-eqb}
 use Rattle.std.proofs.lemmas.List.Folds.{list_any_at, list_any_none}
 use Rattle.std.proofs.lemmas.List.Elements.{Contains-append_cases, All-from_get_or}
 use Rattle.net_graph.specs.Wires.{uids}
-use Rattle.text_lines.specs.Names.{place_of}
+use Rattle.net_names.specs.Names.{place_of}
 use Rattle.net_script.specs.Scripts.{ScriptOf, names_of}
 use Rattle.net_graph.specs.Wires.{Wires}
 use Rattle.net_script.specs.declared.cause.ScriptCause.TheVariants.{UidTwice}
-use Rattle.text_lines.specs.Words.{is_uid, uid_value}
+use Rattle.net_names.specs.Words.{is_uid, uid_value}
 use Rattle.net_script.specs.Rules.{is_taken, is_uid_taken, new_uid_cause}
-use Rattle.text_lines.proofs.NameLemmas.{no_place}
+use Rattle.net_names.proofs.NameLemmas.{no_place}
 
 -- nor is one without a value
 none_of : {X : Type 0} (o : Option X) → is_some o ≡ false → o ≡ None

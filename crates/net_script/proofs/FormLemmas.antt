@@ -3,8 +3,8 @@ use Rattle.net_script.specs.declared.cause.ScriptCause.TheVariants.{UnknownWord}
 use Rattle.net_script.specs.declared.draft.Draft.{Draft}
 use Rattle.net_script.specs.Forms.{Form, form_words}
 use Rattle.net_script.specs.Texts.{AddsForm, IsFaultyForm}
-use Rattle.text_lines.specs.Stops.{IsStep}
-use Rattle.text_lines.proofs.StopLemmas.{form_step_by}
+use Rattle.common_lines.specs.Stops.{IsStep}
+use Rattle.common_lines.proofs.StopLemmas.{form_step_by}
 use Rattle.net_script.specs.Rules.{cause_of, with_form}
 use Rattle.net_script.specs.Steps.{ScriptStop, ReadsForm, IsWrong}
 use Rattle.net_script.proofs.FormOf.{form_of, no_form}

@@ -11,8 +11,8 @@ use Rattle.net_script.specs.declared.command.WireChange.TheVariants as wire
 use Rattle.net_script.specs.Settings.{setting_words}
 use Rattle.net_script.specs.Commands.{link_word, wire_word}
 use Rattle.net_script.specs.Forms.{Form, Number, AnyRoutes, SwitchLine, LinkLine, HostLine, ChangesLink, ChangesWire, Sends, Restarts, End, form_words}
-use Rattle.text_lines.specs.Grammar.{HasNoFormBy}
-use Rattle.text_lines.proofs.ChoiceLemmas.{word_is, branch, mapped}
+use Rattle.common_lines.specs.Grammar.{HasNoFormBy}
+use Rattle.common_lines.proofs.ChoiceLemmas.{word_is, branch, mapped}
 
 -- a limit, a change of a link and one of a wire, by their words
 abbrev pub limit_of : List ℕ → Option Setting

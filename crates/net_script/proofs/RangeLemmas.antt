@@ -5,11 +5,12 @@ use Rattle.std.specs.Str.{bytes_eq}
 use Rattle.std.proofs.lemmas.Bool.{and_parts}
 use Rattle.std.proofs.lemmas.Bool.Decides.{nat_tests}
 use Rattle.std.proofs.lemmas.List.Quantifiers.{position-Some}
-use Rattle.an_base.proofs.ListLemmas.{some_is}
-use Rattle.text_lines.specs.Words.{is_name, is_number, is_number_in, number_value}
-use Rattle.text_lines.specs.Faults.{unless}
-use Rattle.text_lines.specs.Names.{place_of}
-use Rattle.text_lines.proofs.FaultLemmas.{no_first, holds}
+use Rattle.common_values.proofs.ListLemmas.{some_is}
+use Rattle.common_lines.specs.Words.{is_number, is_number_in, number_value}
+use Rattle.net_names.specs.Words.{is_name}
+use Rattle.common_lines.specs.Faults.{unless}
+use Rattle.net_names.specs.Names.{place_of}
+use Rattle.common_lines.proofs.FaultLemmas.{no_first, holds}
 use Rattle.net_script.specs.declared.cause.ScriptCause.TheVariants.{BadNumber, BadName, NoSuchName}
 use Rattle.net_script.specs.Rules.{place, known_cause, number_cause}
 

@@ -20,9 +20,10 @@ use Rattle.net_script.specs.declared.draft.Part.TheVariants.{Header, Items, Afte
 use Rattle.net_script.specs.declared.setting.Limits.{Limits}
 use Rattle.net_script.specs.declared.setting.Setting.{Setting}
 use Rattle.net_script.specs.declared.setting.Setting.TheVariants.{Ticks, Events, Blocks, Epoch, Pace}
-use Rattle.text_lines.specs.Words.{is_name, is_number, number_value, is_uid, uid_value}
-use Rattle.text_lines.specs.Lines.{lines_of, words_of}
-use Rattle.text_lines.specs.Faults.{unless}
+use Rattle.common_lines.specs.Words.{is_number, number_value}
+use Rattle.net_names.specs.Words.{is_name, is_uid, uid_value}
+use Rattle.common_lines.specs.Lines.{lines_of, words_of}
+use Rattle.common_lines.specs.Faults.{unless}
 use Rattle.net_script.specs.Settings.{least_of, most_of, has_come}
 use Rattle.net_script.specs.Commands.{IsPort, IsCommandEvent, is_used, is_linked, last_time, link_event, wire_event, most_count, is_restart}
 use Rattle.net_script.specs.Scripts.{ScriptOf, IsScript, IsLimits, IsPace, IsNewName, CanAddSwitch, CanAddLink, CanAddHost, CanAddCommand, lives_of, with_setting}
@@ -31,7 +32,7 @@ use Rattle.net_script.specs.Rules.{is_taken, is_uid_taken, place, port_cause, nu
 use Rattle.net_script.specs.Drafts.{start}
 use Rattle.net_script.specs.Texts.{AddsWords, Leads, IsText}
 use Rattle.net_script.proofs.TextLemmas.{AddsRow}
-use Rattle.text_lines.proofs.FaultLemmas.{no_first, holds}
+use Rattle.common_lines.proofs.FaultLemmas.{no_first, holds}
 use Rattle.net_script.proofs.FieldLemmas.{not_taken, uid_test}
 use Rattle.net_script.proofs.RangeLemmas.{known_low, in_range}
 use Rattle.net_script.proofs.ScriptLemmas.{empty_kept, switch_kept, link_kept, host_kept, command_kept}

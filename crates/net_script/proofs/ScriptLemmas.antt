@@ -13,9 +13,9 @@ use Rattle.net_graph.specs.declared.wiring.HostOn.{HostOn}
 use Rattle.net_graph.specs.declared.wiring.Far.{Far}
 use Rattle.net_graph.specs.declared.wiring.Far.TheVariants.{Switch, HostAt}
 use Rattle.net_graph.specs.Wires.{Wires, far_at}
-use Rattle.an_base.proofs.PairLemmas.{apart_insert, apart_push}
+use Rattle.common_values.proofs.PairLemmas.{apart_insert, apart_push}
 use Rattle.net_script.specs.declared.command.Command.{Command}
-use Rattle.text_lines.specs.Words.{IsName}
+use Rattle.net_names.specs.Words.{IsName}
 use Rattle.net_script.specs.Commands.{IsPort, IsUsedPort, IsWireChange, IsCommandEvent, IsCommand, is_used, is_switch_far, is_restart, last_time}
 use Rattle.net_script.specs.Scripts.{ScriptOf, IsScript, CanAddSwitch, CanAddLink, CanAddHost, CanAddCommand, names_of, restarts_of, lives_of, empty_script, with_switch, with_link, with_host, with_command}
 use Rattle.net_graph.proofs.WiredLemmas.{no_wires_kept, switch_wired, link_wired, host_wired}

@@ -4,17 +4,17 @@ use Rattle.net_script.specs.declared.cause.ScriptCause.TheVariants.{BadHeader, U
 use Rattle.net_script.specs.declared.draft.Draft.{Draft}
 use Rattle.net_script.specs.declared.draft.Part.{Part}
 use Rattle.net_script.specs.declared.draft.Part.TheVariants.{Header, Items, After}
-use Rattle.text_lines.specs.Lines.{lines_of}
+use Rattle.common_lines.specs.Lines.{lines_of}
 use Rattle.net_script.specs.Scripts.{ScriptOf}
 use Rattle.net_script.specs.Forms.{form_words, header_words}
 use Rattle.net_script.specs.Drafts.{start}
 use Rattle.net_script.specs.Rules.{cause_of, with_form}
 use Rattle.net_script.specs.Texts.{AddsWords, Adds, IsFaultyWords, IsFaulty, bytes_cause, IsEnded, IsText, IsFault}
-use Rattle.text_lines.specs.Grammar.{AddsRowBy}
-use Rattle.text_lines.proofs.GrammarLaws.{form_once, form_not_both, form_one_cause, either_form, line_once, line_not_both, line_one_cause, either_line}
-use Rattle.text_lines.proofs.ChainLaws.{LeadsBy-once, no_fault_of, one_fault_of, end_or_fault}
+use Rattle.common_lines.specs.Grammar.{AddsRowBy}
+use Rattle.common_lines.proofs.GrammarLaws.{form_once, form_not_both, form_one_cause, either_form, line_once, line_not_both, line_one_cause, either_line}
+use Rattle.common_lines.proofs.ChainLaws.{LeadsBy-once, no_fault_of, one_fault_of, end_or_fault}
 use Rattle.net_script.proofs.FormOf.{one_form, form_of, form_is, no_form}
-use Rattle.text_lines.proofs.ChoiceLemmas.{word_is}
+use Rattle.common_lines.proofs.ChoiceLemmas.{word_is}
 use Rattle.std.specs.Str.{bytes_eq}
 use Rattle.std.proofs.lemmas.Bool.{and_parts}
 

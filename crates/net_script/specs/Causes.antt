@@ -6,9 +6,9 @@ use Rattle.net_script.specs.declared.cause.ScriptCause.TheVariants.{NoSuchName, 
 use Rattle.net_script.specs.declared.cause.ScriptCause.TheVariants.{TimesFall, NoEnd, AfterEnd, LineTooLong}
 use Rattle.net_script.specs.declared.cause.ScriptCause.TheVariants.{NoLink, TablesShort}
 
--- The words for what is wrong with a script.
+-- The words for the errors in a script.
 
--- the words for a cause
+-- the words for an error
 abbrev pub cause_text : ScriptCause → List ℕ
 cause_text NotAscii = codes "not ascii"
 cause_text BadHeader = codes "bad header"

@@ -14,9 +14,9 @@ use Rattle.net_script.specs.declared.command.LinkChange.TheVariants as link
 use Rattle.net_script.specs.declared.command.WireChange.{WireChange}
 use Rattle.net_script.specs.declared.command.WireChange.TheVariants as wire
 
--- Timed commands, and which of them can be in a wiring.
+-- Timed commands, and which of them fit a wiring.
 
--- the word for a change of a link, and its event
+-- the word (`link_word`) and the event (`link_event`) of a change of a link
 abbrev pub link_word : LinkChange → List ℕ
 link_word link.Fail = codes "fail"
 link_word link.Repair = codes "repair"
@@ -25,7 +25,7 @@ abbrev pub link_event : LinkChange → ℕ → ℕ → Event
 link_event link.Fail node port = Fail node port
 link_event link.Repair node port = Repair node port
 
--- the word for a change of what a wire does, its event, and its greatest number
+-- the word (`wire_word`), the event (`wire_event`) and the highest number (`most_count`) of a change of a wire
 abbrev pub wire_word : WireChange → List ℕ
 wire_word wire.Lose = codes "lose"
 wire_word wire.Again = codes "again"
@@ -44,39 +44,39 @@ most_count wire.Again = 1000000
 most_count wire.Swap = 1000000
 most_count wire.Noise = 64
 
--- whether a port has a link or a host
+-- whether `port` of `node` has a link or a host
 abbrev pub is_used : Wires → (node port : ℕ) → Bool
 is_used wires node port = is_some (far_at wires node port)
 
--- whether this is a port of a switch
+-- whether a far side is a port of a switch
 abbrev pub is_switch_far : Option Far → Bool
 is_switch_far None = false
 is_switch_far (Some (Switch node port)) = true
 is_switch_far (Some (HostAt host)) = false
 
--- whether a port has a link
+-- whether `port` of `node` has a link
 abbrev pub is_linked : Wires → (node port : ℕ) → Bool
 is_linked wires node port = is_switch_far (far_at wires node port)
 
--- a port of a switch
+-- `own_port` is a port of the switch `node`, and this is a switch of the wiring
 pub record IsPort (wires : Wires) (node own_port : ℕ) : Type 0 where
   pub switch : node < length wires.switches
   pub port_least : 1 ≤ own_port
   pub port_most : own_port ≤ LAST_PORT
 
--- a port that has a link or a host
+-- `own_port` of `node` has a link or a host
 pub record IsUsedPort (wires : Wires) (node own_port : ℕ) : Type 0 where
   pub port : IsPort wires node own_port
   pub used : is_used wires node own_port ≡ true
 
--- a change of a wire that can be
+-- a change of a wire with the number `count` of at most `most` is possible at `own_port` of `node`
 pub record IsWireChange (wires : Wires) (node own_port count most : ℕ) : Type 0 where
   pub port : IsPort wires node own_port
   pub linked : is_linked wires node own_port ≡ true
   pub count_least : 1 ≤ count
   pub count_most : count ≤ most
 
--- the events that a command may have in a wiring
+-- the wiring allows a command with the event
 abbrev pub IsCommandEvent : Wires → Event → Type 0
 IsCommandEvent wires (Fail node port) = IsUsedPort wires node port
 IsCommandEvent wires (Repair node port) = IsUsedPort wires node port
@@ -88,7 +88,7 @@ IsCommandEvent wires (Send host to) = (host < length wires.hosts) × (to < lengt
 IsCommandEvent wires (Restart node) = node < length wires.switches
 IsCommandEvent wires event = ⊥
 
--- a command that can be in a wiring
+-- the wiring allows the command `one`, and its time is in range
 pub record IsCommand (wires : Wires) (one : Command) : Type 0 where
   pub time : one.time ≤ 1000000
   pub event : IsCommandEvent wires one.event
@@ -98,6 +98,6 @@ abbrev pub is_restart : Event → Bool
 is_restart (Restart node) = true
 is_restart event = false
 
--- the time of the last command, 0 without one
+-- the time of the last command, 0 if there is none
 abbrev pub last_time : List Command → ℕ
 last_time commands = option_map_or (λ command. command.time) (slice_get commands (length commands - 1)) 0

@@ -5,11 +5,11 @@ use Rattle.net_script.specs.Scripts.{empty_script}
 
 -- What the lines of a text say so far.
 
--- what no lines say: the script so far, the settings that came, and the part of the text in which the
--- next line stands
+-- the draft before the first line: the script so far, the settings that were read, and the part of the text that the
+-- next line belongs to
 abbrev pub start : Draft
 start = record { script = empty_script; came = none_came; part = Header }
 
--- what the first line alone says
+-- the draft after only the first line
 abbrev pub begun : Draft
 begun = record start { part = Items }

@@ -20,7 +20,7 @@ pub data Form : Type 0 where
   Restarts : (time name : List ℕ) → Form
   End : Form
 
--- the words of `had N`, if it stands
+-- the words of `had N`, if there is a number
 abbrev pub had_words : Option (List ℕ) → List (List ℕ)
 had_words None = []
 had_words (Some number) = codes "had" ∷ number ∷ []

@@ -7,7 +7,7 @@ use Rattle.net_graph.specs.declared.wiring.LinkAt.{LinkAt}
 use Rattle.net_graph.specs.declared.wiring.HostOn.{HostOn}
 use Rattle.net_graph.specs.Wires.{Wires, IsWired, IsSwitch, IsLink, IsHost, uids, used_ports, a_end, b_end}
 use Rattle.net_graph.specs.Wires.{host_end}
-use Rattle.text_lines.specs.Words.{IsName}
+use Rattle.net_names.specs.Words.{IsName}
 use Rattle.net_script.specs.declared.setting.TheConstants.{DEFAULT_TICKS, DEFAULT_EVENTS, DEFAULT_BLOCKS}
 use Rattle.net_script.specs.declared.setting.Setting.{Setting}
 use Rattle.net_script.specs.declared.setting.Setting.TheVariants.{Ticks, Events, Blocks, Epoch, Pace}
@@ -15,11 +15,10 @@ use Rattle.net_script.specs.declared.command.Command.{Command}
 use Rattle.net_script.specs.Commands.{IsCommand, is_restart, last_time}
 use Rattle.net_script.specs.declared.setting.Limits.{Limits}
 
--- Scripts, and what each keeps.
+-- Scripts, and their invariant.
 
--- A script: the wiring, the names of its switches and hosts by place, and the commands in order. Then the
--- settings: the epoch in which switches start, the pace, the limits, and whether tables have all legal
--- routes.
+-- A script: the wiring, the names of its switches and hosts in order, and the commands in order. Then the settings: the
+-- epoch in which switches start, the pace, the limits, and whether tables have all legal routes.
 pub record ScriptOf : Type 0 where
   pub wires : Wires
   pub switch_names : List (List ℕ)
@@ -34,11 +33,11 @@ pub record ScriptOf : Type 0 where
 abbrev pub names_of : ScriptOf → List (List ℕ)
 names_of script = script.switch_names ++ script.names_of_hosts
 
--- the restarts among commands
+-- the number of restarts among commands
 unfoldable pub restarts_of : List Command → ℕ
 restarts_of commands = count_by (λ command. is_restart command.event) commands
 
--- the lives of switches: one each, and one for each restart
+-- the number of lives of switches: one for each switch and each restart
 abbrev pub lives_of : ScriptOf → ℕ
 lives_of script = length script.wires.switches + restarts_of script.commands
 
@@ -54,7 +53,7 @@ pub record IsLimits (limits : Limits) : Type 0 where
 abbrev pub IsPace : Option ℕ → Type 0
 IsPace pace = IfSome pace (λ number. (1 ≤ number) × (number ≤ 1000000))
 
--- what every script keeps
+-- the invariant of every script
 pub record IsScript (script : ScriptOf) : Type 0 where
   pub wired : IsWired script.wires
   pub switch_count : length script.switch_names ≡ length script.wires.switches
@@ -70,7 +69,7 @@ pub record IsScript (script : ScriptOf) : Type 0 where
   pub pace : IsPace script.pace
   pub limits : IsLimits script.limits
 
--- the script without lines between the first and the last
+-- the script of a text without lines between the first and the last
 abbrev pub empty_script : ScriptOf
 empty_script =
     record {
@@ -84,7 +83,7 @@ empty_script =
       any_routes = false;
     }
 
--- the script with one more switch
+-- `script` with the switch `added`, called `name`
 abbrev pub with_switch : ScriptOf → List ℕ → SwitchAt → ScriptOf
 with_switch script name added =
     record script {
@@ -92,12 +91,12 @@ with_switch script name added =
       switch_names = script.switch_names ++ name ∷ [];
     }
 
--- the script with one more link
+-- `script` with the link `added`
 abbrev pub with_link : ScriptOf → LinkAt → ScriptOf
 with_link script added =
     record script { wires = record script.wires { links = script.wires.links ++ added ∷ [] } }
 
--- the script with one more host
+-- `script` with the host `added`, called `name`
 abbrev pub with_host : ScriptOf → List ℕ → HostOn → ScriptOf
 with_host script name added =
     record script {
@@ -105,11 +104,11 @@ with_host script name added =
       names_of_hosts = script.names_of_hosts ++ name ∷ [];
     }
 
--- the script with one more command
+-- `script` with one more command
 abbrev pub with_command : ScriptOf → Command → ScriptOf
 with_command script command = record script { commands = script.commands ++ command ∷ [] }
 
--- the script with this setting
+-- `script` with a setting at `number`
 abbrev pub with_setting : ScriptOf → Setting → ℕ → ScriptOf
 with_setting script Ticks number = record script { limits = record script.limits { ticks = number } }
 with_setting script Events number = record script { limits = record script.limits { events = number } }
@@ -117,26 +116,26 @@ with_setting script Blocks number = record script { limits = record script.limit
 with_setting script Epoch number = record script { epoch = number }
 with_setting script Pace number = record script { pace = Some number }
 
--- a new name
+-- `name` is a name that is new in `script`
 pub record IsNewName (script : ScriptOf) (name : List ℕ) : Type 0 where
   pub is_name : IsName name
   pub is_new : ¬ Contains (names_of script) name
 
--- the script may get this switch
+-- `script` can get the switch `added`, called `name`
 pub record CanAddSwitch (script : ScriptOf) (name : List ℕ) (added : SwitchAt) : Type 0 where
   pub new_name : IsNewName script name
   pub switch : IsSwitch added
   pub uid_new : ¬ Contains (uids script.wires) added.uid
   pub room : lives_of script < MOST_SWITCHES
 
--- the script may get this link
+-- `script` can get the link `added`
 pub record CanAddLink (script : ScriptOf) (added : LinkAt) : Type 0 where
   pub link : IsLink (length script.wires.switches) added
   pub apart : a_end added ≢ b_end added
   pub a_free : ¬ Contains (used_ports script.wires) (a_end added)
   pub b_free : ¬ Contains (used_ports script.wires) (b_end added)
 
--- the script may get this host
+-- `script` can get the host `added`, called `name`
 pub record CanAddHost (script : ScriptOf) (name : List ℕ) (added : HostOn) : Type 0 where
   pub new_name : IsNewName script name
   pub host : IsHost (length script.wires.switches) added
@@ -144,7 +143,7 @@ pub record CanAddHost (script : ScriptOf) (name : List ℕ) (added : HostOn) : T
   pub free : ¬ Contains (used_ports script.wires) (host_end added)
   pub room : length script.wires.hosts < 1000
 
--- the script may get this command
+-- `script` can get the command `added`
 pub record CanAddCommand (script : ScriptOf) (added : Command) : Type 0 where
   pub command : IsCommand script.wires added
   pub time : last_time script.commands ≤ added.time

@@ -13,7 +13,7 @@ setting_words Blocks = codes "limit" ∷ codes "blocks" ∷ []
 setting_words Epoch = codes "epoch" ∷ []
 setting_words Pace = codes "pace" ∷ []
 
--- the least number of a setting
+-- the lowest number of a setting
 abbrev pub least_of : Setting → ℕ
 least_of Ticks = 0
 least_of Events = 2
@@ -21,7 +21,7 @@ least_of Blocks = 1
 least_of Epoch = 0
 least_of Pace = 1
 
--- the greatest number of a setting
+-- the highest number of a setting
 abbrev pub most_of : Setting → ℕ
 most_of Ticks = 1000000
 most_of Events = 16000000
@@ -29,7 +29,7 @@ most_of Blocks = 1048576
 most_of Epoch = 2 ^ 64 - 1
 most_of Pace = 1000000
 
--- no setting had its line
+-- the record that no setting had its line
 abbrev pub none_came : Came
 none_came =
     record { ticks = false; events = false; blocks = false; epoch = false; pace = false; routes = false }
@@ -42,7 +42,7 @@ has_come came Blocks = came.blocks
 has_come came Epoch = came.epoch
 has_come came Pace = came.pace
 
--- the same after the line of a setting
+-- `came` after the line of a setting
 abbrev pub with_come : Came → Setting → Came
 with_come came Ticks = record came { ticks = true }
 with_come came Events = record came { events = true }

@@ -1,7 +1,7 @@
 use Rattle.std.specs.Prelude.{◌≡◌, ℕ, List, Some}
-use Rattle.text_lines.specs.declared.stop.Stop.{Stop}
-use Rattle.text_lines.specs.declared.stop.Refusal.{Refusal}
-use Rattle.text_lines.specs.Stops.{IsRefusalBy, ReadsFormBy}
+use Rattle.common_lines.specs.declared.stop.Stop.{Stop}
+use Rattle.common_lines.specs.declared.stop.Refusal.{Refusal}
+use Rattle.common_lines.specs.Stops.{IsRefusalBy, ReadsFormBy}
 use Rattle.net_script.specs.declared.cause.ScriptCause.{ScriptCause}
 use Rattle.net_script.specs.declared.draft.Draft.{Draft}
 use Rattle.net_script.specs.Forms.{Form}
@@ -10,21 +10,22 @@ use Rattle.net_script.specs.Texts.{IsFault}
 
 -- The steps of the reader.
 
--- why a line of a script adds nothing, and why bytes were not read as a script
+-- the reasons why a line of a script adds nothing (`ScriptStop`), and why bytes were not read as a script
+-- (`ReadRefusal`)
 abbrev pub ScriptStop : Type 0
 ScriptStop = Stop ScriptCause
 
 abbrev pub ReadRefusal : Type 0
 ReadRefusal = Refusal ScriptCause
 
--- nothing is wrong with a line of this form after a draft, and it leads to the draft with what it adds
+-- a line of a form has no error after a draft, and leads to the draft with what it adds
 abbrev pub ReadsForm : Draft → Form → Draft → Type 0
 ReadsForm = ReadsFormBy cause_of with_form
 
--- this is wrong with a line of this form after a draft
+-- the error of a line of `form` after `draft` is `cause`
 abbrev pub IsWrong : Draft → Form → ScriptCause → Type 0
 IsWrong draft form cause = cause_of draft form ≡ Some cause
 
--- the refusal says the first fault of the bytes, or that no memory was found
+-- the bytes were not read because of their first error, or because memory ran out
 abbrev pub IsRefusal : List ℕ → ReadRefusal → Type 0
 IsRefusal bytes = IsRefusalBy (IsFault bytes)

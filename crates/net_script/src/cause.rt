@@ -1,49 +1,49 @@
-//! Why a text is no script.
+//! The reasons why a text is not a script.
 
 ghost use Rattle.std.specs.Prelude.{◌≡◌};
 ghost use Rattle.net_script.specs.Causes.{cause_text};
 
-/// What is wrong with a line of a script.
+/// An error in a line of a script.
 #[derive(Clone, Copy, Debug, PartialEq, Eq)]
 pub enum ScriptCause {
-    /// A byte that no line may have.
+    /// A byte is not allowed in a line.
     NotAscii,
     /// The first words are not `autonet 1`.
     BadHeader,
     /// The words match no form.
     UnknownWord,
-    /// A word is no number, is out of its range if it is no port, or is no identifier.
+    /// A word is not a number, or not an identifier, or it is a number out of range that is not a port.
     BadNumber,
-    /// A word is no name.
+    /// A word is not a name.
     BadName,
-    /// The name is taken, or the setting came before.
+    /// The name is taken, or the setting is repeated.
     NameTwice,
     /// The identifier is taken.
     UidTwice,
-    /// No earlier switch, or host if one is wanted, has the name.
+    /// No earlier switch (or host, where the line names a host) has the name.
     NoSuchName,
-    /// A number of a port is not 1 to 12, or an entry of a routing table is not 0 to 12.
+    /// A port is not 1 to 12, or the ingress port of a row is not 0 to 12.
     PortRange,
-    /// The port has a link or a host already, or both ends of a link are one port.
+    /// The port already has a link or a host, or both ends of a link are the same port.
     PortUsed,
-    /// A limit on switches with restarts, on hosts, on commands or on bytes of input is passed.
+    /// There are too many switches and restarts, hosts, commands, or bytes of input.
     TooMany,
-    /// A time is below the time of the command before.
+    /// A time is below the time of the previous command.
     TimesFall,
-    /// No `end` came.
+    /// The line `end` is missing.
     NoEnd,
-    /// Words stand after `end`.
+    /// There are words after `end`.
     AfterEnd,
     /// A line has too many bytes.
     LineTooLong,
-    /// A command names a port without a link, or without link and host if a host's port serves.
+    /// A command names a port without a link (or without link and host, if the command also accepts a host's port).
     NoLink,
-    /// A switch has no number at the end of tables.
+    /// The tables end without a number for some switch.
     TablesShort,
 }
 
 impl ScriptCause {
-    /// The words for it in messages.
+    /// Returns the words for the error in messages.
     pub fn text(self) -> &'static str
         ensures { result.now ≡ cause_text self }
     {

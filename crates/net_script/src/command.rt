@@ -7,7 +7,7 @@ use an_base::event::Event;
 use an_base::place::Place;
 use an_base::port::Port;
 
-/// An event of a script, and the tick from which it is due.
+/// An event of a script, and the tick at which it becomes due.
 #[derive(Clone, Copy, PartialEq, Eq)]
 pub struct Command {
     /// The tick, 0 to 1,000,000.
@@ -19,9 +19,9 @@ pub struct Command {
 /// A change of a link.
 #[derive(Clone, Copy, PartialEq, Eq)]
 pub enum LinkChange {
-    /// It goes down.
+    /// The link goes down.
     Fail,
-    /// It comes up.
+    /// The link comes up.
     Repair,
 }
 
@@ -37,23 +37,23 @@ impl LinkChange {
     }
 }
 
-/// A change of what a wire does with the next frames.
+/// A change of how a wire treats its next frames.
 #[derive(Clone, Copy, PartialEq, Eq)]
 pub enum WireChange {
     /// Frames are lost.
     Lose,
-    /// Frames taken leave a copy.
+    /// Frames that are taken leave a copy.
     Again,
-    /// The second frame is taken.
+    /// The second frame is taken first.
     Swap,
-    /// Bytes that are no frame are put on the wire.
+    /// Bytes that do not form a frame are put on the wire.
     Noise,
 }
 
 impl WireChange {
     ghost use Rattle.net_script.specs.declared.command.WireChange.{WireChange};
 
-    /// The change that a word stands for, if it stands for one.
+    /// Returns the change that `word` names, if it names one.
     pub fn of(word: &[u8]) -> Option<Self>
         ensures some { IfSome result (λ k. word.now ≡ wire_word k) }
         ensures none { IfNone result ((k : WireChange) → word.now ≢ wire_word k) }
@@ -67,7 +67,7 @@ impl WireChange {
         }
     }
 
-    /// The greatest number of frames, or of bytes.
+    /// Returns the maximum number of frames, or of bytes.
     pub fn most(self) -> u64
         ensures { result ≡ most_count self }
     {
@@ -77,7 +77,7 @@ impl WireChange {
         }
     }
 
-    /// The event of this change at a port.
+    /// Returns the event of this change with the number `n`, at `port` of the switch `s`.
     pub fn event(self, s: Place, port: Port, n: u32) -> Event
         ensures { result ≡ wire_event self s port n }
     {

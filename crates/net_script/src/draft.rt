@@ -7,14 +7,14 @@ use crate::script::Script;
 use crate::setting::Came;
 use std::alloc::Global;
 
-/// What so many lines of a text say.
+/// What the lines that have been read say.
 #[derive(Drop)]
 pub struct Draft {
     /// The script so far.
     pub script: Script,
-    /// The settings that came.
+    /// The settings that were read.
     pub came: Came,
-    /// The part of the text in which the next line stands.
+    /// The part of the text that the next line belongs to.
     pub part: Part,
 }
 
@@ -30,7 +30,7 @@ pub enum Part {
 }
 
 impl Draft {
-    /// What no lines say.
+    /// Creates the draft before the first line.
     pub fn new(alloc: Global) -> Self
         ensures { result ≡ start }
     {

@@ -1,24 +1,26 @@
-//! The fields of lines: what a word says in its place, and what is wrong with it.
+//! The fields of lines: the value of a word, or its error.
 
 ghost use Rattle.std.specs.Prelude.{◌≡◌, ◌≢◌, ◌<◌, ◌≤◌, ◌^◌, [], ◌∷◌, Some, not, true, false, is_some, length, Contains, IfOk, OnOk};
 ghost use Rattle.std.specs.Option.{option_map};
 ghost use Rattle.an_base.specs.declared.limits.TheConstants.{LAST_PORT, MOST_NUMBER, MOST_SWITCHES};
 ghost use Rattle.net_graph.specs.Wires.{uids, used_ports, a_end, b_end};
 ghost use Rattle.net_script.specs.declared.cause.ScriptCause.TheVariants.{BadName, NoSuchName, PortUsed, NoLink};
-ghost use Rattle.text_lines.specs.Words.{is_name, number_value, uid_value};
-ghost use Rattle.text_lines.specs.Faults.{first_of, unless};
+ghost use Rattle.common_lines.specs.Words.{number_value};
+ghost use Rattle.net_names.specs.Words.{is_name, uid_value};
+ghost use Rattle.common_lines.specs.Faults.{first_of, unless};
 ghost use Rattle.net_script.specs.Commands.{is_used, is_linked, last_time};
 ghost use Rattle.net_script.specs.Scripts.{IsNewName, lives_of};
 ghost use Rattle.net_script.specs.Rules.{number_cause, port_cause, new_name_cause, new_uid_cause, known_cause, had_cause, time_cause, lives_cause, commands_cause, is_taken, is_free, place, had_of};
-ghost use Rattle.text_lines.specs.Faults.{IsField, IsGoodField, IsTest};
+ghost use Rattle.common_lines.specs.Faults.{IsField, IsGoodField, IsTest};
 
 use crate::cause::ScriptCause;
 use crate::script::Script;
 use an_base::limits::MOST_SWITCHES;
 use an_base::place::Place;
 use an_base::port::Port;
+use common_lines::word::{is_number, number_between, number_of};
 use net_graph::wiring::{Far, LinkAt, Wiring};
-use text_lines::word::{is_name, is_number, number_between, number_of, uid_of};
+use net_names::word::{is_name, uid_of};
 
 // The most commands.
 const MOST_COMMANDS: usize = 10_000;
@@ -26,7 +28,10 @@ const MOST_COMMANDS: usize = 10_000;
 // The latest time of a command.
 const MOST_TIME: u64 = 1_000_000;
 
-/// The number from `least` to `most` that a word says; `BadNumber` if it says none.
+/// Returns the value of `word`, a number from `least` to `most`.
+///
+/// # Errors
+/// `BadNumber` if it is not such a number.
 pub fn number_in(word: &[u8], least: u64, most: u64) -> Result<u64, ScriptCause>
     ensures number { IsField result (number_cause least most word.now) (number_value word.now) }
     ensures range { IfOk result (λ n. (least ≤ n) × (n ≤ most)) }
@@ -34,7 +39,10 @@ pub fn number_in(word: &[u8], least: u64, most: u64) -> Result<u64, ScriptCause>
     number_between(word, least, most).ok_or(ScriptCause::BadNumber)
 }
 
-/// The port, 1 to 12, that a word says; `BadNumber` if it is no number, and `PortRange` if that is no port.
+/// Returns the port, 1 to 12, that `word` names.
+///
+/// # Errors
+/// `BadNumber` if it is not a number, and `PortRange` if the number is not a port.
 pub fn port_in(word: &[u8]) -> Result<Port, ScriptCause>
     ensures port { IsField result (port_cause word.now) (number_value word.now) }
     ensures range { IfOk result (λ p. (1 ≤ p) × (p ≤ LAST_PORT)) }
@@ -48,7 +56,10 @@ pub fn port_in(word: &[u8]) -> Result<Port, ScriptCause>
     }
 }
 
-/// Refuses a word that is no name (`BadName`), or that a switch or a host has (`NameTwice`).
+/// Checks that `word` is a name that no switch or host has.
+///
+/// # Errors
+/// `BadName` if it is not a name, and `NameTwice` if a switch or a host has it.
 pub fn new_name(script: &Script, word: &[u8]) -> Result<(), ScriptCause>
     ensures test { IsTest result (new_name_cause script.now word.now) }
     ensures is_new { OnOk result (IsNewName script.now word.now) }
@@ -69,8 +80,10 @@ fn is_taken(script: &Script, name: &[u8]) -> bool
     script.place_of_switch(name).is_some() || script.place_of_host(name).is_some()
 }
 
-/// The identifier, below 2^48, that a word says and that no switch or host has; `BadNumber` if it says none,
-/// and `UidTwice` if a switch or a host has it.
+/// Returns the value of `word`, an identifier below 2^48 that no switch or host has.
+///
+/// # Errors
+/// `BadNumber` if it is not an identifier, and `UidTwice` if a switch or a host has it.
 pub fn new_uid(script: &Script, word: &[u8]) -> Result<u64, ScriptCause>
     ensures uid { IsField result (new_uid_cause script.now word.now) (uid_value word.now) }
     ensures is_new { IfOk result (λ uid. (uid < 2 ^ 48) × ¬ Contains (uids script.now.wires) uid) }
@@ -96,7 +109,10 @@ fn known<Found: Copy>(word: &[u8], place: Option<Found>) -> Result<Found, Script
     place.ok_or(ScriptCause::NoSuchName)
 }
 
-/// The place of the switch that a word names; `BadName` if it is no name, `NoSuchName` if no switch has it.
+/// Returns the index of the switch that `word` names.
+///
+/// # Errors
+/// `BadName` if it is not a name, and `NoSuchName` if no switch has it.
 pub fn known_switch(script: &Script, word: &[u8]) -> Result<Place, ScriptCause>
     ensures place { IsField result (known_cause script.now.switch_names word.now)
         (place script.now.switch_names word.now) }
@@ -105,7 +121,10 @@ pub fn known_switch(script: &Script, word: &[u8]) -> Result<Place, ScriptCause>
     known(word, script.place_of_switch(word))
 }
 
-/// The place of the host that a word names; `BadName` if it is no name, `NoSuchName` if no host has it.
+/// Returns the index of the host that `word` names.
+///
+/// # Errors
+/// `BadName` if it is not a name, and `NoSuchName` if no host has it.
 pub fn known_host(script: &Script, word: &[u8]) -> Result<u16, ScriptCause>
     ensures place { IsField result (known_cause script.now.names_of_hosts word.now)
         (place script.now.names_of_hosts word.now) }
@@ -114,8 +133,10 @@ pub fn known_host(script: &Script, word: &[u8]) -> Result<u16, ScriptCause>
     known(word, script.place_of_host(word))
 }
 
-/// The number, 1 to 126, that a switch had last, as a word says it, or 1 without a word; `BadNumber` if the
-/// word says none.
+/// Returns the number, 1 to 126, that a switch had last: the value of `word`, or 1 without a word.
+///
+/// # Errors
+/// `BadNumber` if the word is not such a number.
 pub fn had_in(word: Option<&[u8]>) -> Result<u8, ScriptCause>
     ensures had { IsField result (had_cause (option_map (λ w. w.now) word.entry))
         (had_of (option_map (λ w. w.now) word.entry)) }
@@ -130,8 +151,10 @@ pub fn had_in(word: Option<&[u8]>) -> Result<u8, ScriptCause>
     }
 }
 
-/// The time in ticks, up to 1,000,000, that a word says for the next command; `BadNumber` if it says none,
-/// and `TimesFall` if the last command is due later.
+/// Returns the time of the next command in ticks, up to 1,000,000: the value of `word`.
+///
+/// # Errors
+/// `BadNumber` if it is not such a number, and `TimesFall` if the last command is due later.
 pub fn time_in(script: &Script, word: &[u8]) -> Result<u32, ScriptCause>
     ensures time { IsField result (time_cause script.now word.now) (number_value word.now) }
     ensures range { IfOk result (λ t. (last_time script.now.commands ≤ t) × (t ≤ 1000000)) }
@@ -150,7 +173,10 @@ fn last_time(script: &Script) -> u32
     script.commands().last().map_or(0, |c| c.time)
 }
 
-/// Refuses one more life if there are 126 (`TooMany`).
+/// Checks that there are fewer than 126 lives.
+///
+/// # Errors
+/// `TooMany` if there are 126.
 pub fn room_for_life(script: &Script) -> Result<(), ScriptCause>
     ensures test { IsTest result (lives_cause script.now) }
     ensures room { OnOk result (lives_of script.now < MOST_SWITCHES) }
@@ -162,7 +188,10 @@ pub fn room_for_life(script: &Script) -> Result<(), ScriptCause>
     }
 }
 
-/// Refuses one more command if there are 10,000 (`TooMany`).
+/// Checks that there are fewer than 10,000 commands.
+///
+/// # Errors
+/// `TooMany` if there are 10,000.
 pub fn room_for_command(script: &Script) -> Result<(), ScriptCause>
     ensures test { IsTest result (commands_cause script.now) }
     ensures room { OnOk result (length script.now.commands < 10000) }
@@ -182,7 +211,10 @@ fn is_used(wiring: &Wiring, s: Place, port: Port) -> bool
     wiring.far(s, port).is_some()
 }
 
-/// Refuses a link of which a port is used, or whose ports are one, with `PortUsed`.
+/// Checks that `link` joins two different ports, both unused.
+///
+/// # Errors
+/// `PortUsed` if it does not.
 pub fn free_link(wiring: &Wiring, link: &LinkAt) -> Result<(), ScriptCause>
     ensures test { IsTest result (unless (is_free wiring.now link.now) PortUsed) }
     ensures apart { OnOk result (a_end link.now ≢ b_end link.now) }
@@ -201,7 +233,10 @@ pub fn free_link(wiring: &Wiring, link: &LinkAt) -> Result<(), ScriptCause>
     Ok(())
 }
 
-/// Refuses a port that is used, with `PortUsed`.
+/// Checks that `port` of the switch `s` is unused.
+///
+/// # Errors
+/// `PortUsed` if it has a link or a host.
 pub fn free_port(wiring: &Wiring, s: Place, port: Port) -> Result<(), ScriptCause>
     ensures test { IsTest result (unless (not (is_used wiring.now s port)) PortUsed) }
     ensures free { OnOk result (¬ Contains (used_ports wiring.now) (s, port)) }
@@ -212,7 +247,10 @@ pub fn free_port(wiring: &Wiring, s: Place, port: Port) -> Result<(), ScriptCaus
     Ok(())
 }
 
-/// Refuses a port without link and host, with `NoLink`.
+/// Checks that `port` of the switch `s` has a link or a host.
+///
+/// # Errors
+/// `NoLink` if it has neither.
 pub fn used_port(wiring: &Wiring, s: Place, port: Port) -> Result<(), ScriptCause>
     ensures test { IsTest result (unless (is_used wiring.now s port) NoLink) }
     ensures used { OnOk result (is_used wiring.now s port ≡ true) }
@@ -224,7 +262,10 @@ pub fn used_port(wiring: &Wiring, s: Place, port: Port) -> Result<(), ScriptCaus
     }
 }
 
-/// Refuses a port without link, with `NoLink`.
+/// Checks that `port` of the switch `s` has a link.
+///
+/// # Errors
+/// `NoLink` if it has no link.
 pub fn linked_port(wiring: &Wiring, s: Place, port: Port) -> Result<(), ScriptCause>
     ensures test { IsTest result (unless (is_linked wiring.now s port) NoLink) }
     ensures linked { OnOk result (is_linked wiring.now s port ≡ true) }

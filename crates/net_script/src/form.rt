@@ -1,8 +1,8 @@
-//! The forms of lines: what the words of a line add to what stands before it.
+//! The forms of lines: what the words of a line add to the lines before it.
 
 ghost use Rattle.std.specs.Prelude.{◌≡◌, ◌≢◌, [], ◌∷◌, None, map, codes, IfOk, IfSome, IfNone};
 ghost use Rattle.std.specs.Option.{option_map};
-ghost use Rattle.text_lines.specs.declared.stop.Stop.TheVariants.{Fault};
+ghost use Rattle.common_lines.specs.declared.stop.Stop.TheVariants.{Fault};
 ghost use Rattle.net_script.specs.Settings.{setting_words};
 ghost use Rattle.net_script.specs.Commands.{link_word};
 ghost use Rattle.net_script.specs.Scripts.{CanAddSwitch, CanAddLink, CanAddHost, CanAddCommand};
@@ -11,8 +11,8 @@ ghost use Rattle.net_script.specs.Rules.{switch_of, link_of, host_of, link_comma
 ghost use Rattle.net_script.specs.declared.setting.Setting.{Setting};
 ghost use Rattle.net_script.specs.declared.command.LinkChange.{LinkChange};
 ghost use Rattle.net_script.specs.Texts.{AddsForm, IsFaultyForm};
-ghost use Rattle.text_lines.specs.Faults.{IsField};
-ghost use Rattle.text_lines.specs.Stops.{IsStep};
+ghost use Rattle.common_lines.specs.Faults.{IsField};
+ghost use Rattle.common_lines.specs.Stops.{IsStep};
 ghost use Rattle.net_script.specs.Steps.{ReadsForm, IsWrong};
 
 use crate::cause::ScriptCause;
@@ -25,13 +25,13 @@ use crate::field::{
 use crate::script::Script;
 use crate::setting::Setting;
 use an_base::event::Event;
-use an_base::text::Word;
+use common_lines::stop::Stop;
+use common_lines::word::is;
+use common_values::text::Word;
 use net_graph::wiring::{HostOn, LinkAt, MOST_HOSTS, SwitchAt};
 use std::alloc::Global;
-use text_lines::stop::Stop;
-use text_lines::word::is;
 
-/// Why a line of a script adds nothing.
+/// The reason why a line of a script adds nothing.
 pub type ScriptStop = Stop<ScriptCause>;
 
 impl From<ScriptCause> for Stop<ScriptCause> {
@@ -42,7 +42,10 @@ impl From<ScriptCause> for Stop<ScriptCause> {
     }
 }
 
-/// Adds what a line of these words says.
+/// Adds what a line of `words` says.
+///
+/// # Errors
+/// `Fault` with the first error of the words, or `OutOfMemory`. The contract then says nothing about `draft`.
 pub fn read_form(draft: &mut Draft, alloc: Global, words: &[&[u8]]) -> Result<(), ScriptStop>
     ensures { IsStep result (AddsForm draft.old (map (λ w. w.now) words.now) draft.new)
         (IsFaultyForm draft.old (map (λ w. w.now) words.now)) }

@@ -1,9 +1,11 @@
-//! Scripts: the text that says which switches a network has, how their ports are linked, which hosts
-//! are on them, within which limits it runs, and what happens to it when.
+//! autonet, files: reader of scripts.
 //!
-//! It stands on `an_base`, `net_graph` and `text_lines`. Its contract: `reader::read` answers a script
-//! only if the bytes are the text of one, and else the first faulty line with its first cause; want of
-//! memory may come in place of either. No bytes are the text of two scripts.
+//! A script is the text that describes the switches, links and hosts of a network, the limits of its run, and timed
+//! commands.
+//!
+//! It depends on `net_graph`, `net_names` and `common_lines`. Its contract: `reader::read` returns a script only if
+//! the bytes are its text, and otherwise the first line with an error and its first error; it can run out of memory
+//! instead. No bytes are the text of two scripts.
 #![tactic(auto)]
 
 pub mod cause;

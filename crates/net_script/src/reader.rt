@@ -4,25 +4,29 @@ ghost use Rattle.std.specs.Prelude.{◌≡◌, ◌<◌, ◌-◌, ◌^◌, [], �
 ghost use Rattle.net_script.specs.declared.draft.Part.TheVariants.{Header};
 ghost use Rattle.net_script.specs.Drafts.{start};
 ghost use Rattle.net_script.specs.Texts.{IsText, Adds, IsFaulty, AddsWords, IsFaultyWords};
-ghost use Rattle.text_lines.specs.Stops.{IsStep};
+ghost use Rattle.common_lines.specs.Stops.{IsStep};
 ghost use Rattle.net_script.specs.Steps.{IsRefusal};
 
 use crate::cause::ScriptCause;
 use crate::draft::{Draft, Part};
 use crate::form::{ScriptStop, read_form};
 use crate::script::Script;
+use common_lines::line::{MOST_LINE, are_line_bytes, first_line, words};
+use common_lines::stop::{Refusal, Stop};
+use common_lines::word::is;
 use std::alloc::Global;
-use text_lines::line::{MOST_LINE, are_line_bytes, first_line, words};
-use text_lines::stop::{Refusal, Stop};
-use text_lines::word::is;
 
-/// Why bytes were not read as a script: the first faulty line with its first cause, or no memory.
+/// The reason why bytes were not read as a script: the first line with an error and its first error, or
+/// out of memory.
 pub type ReadRefusal = Refusal<ScriptCause>;
 
-/// The script that the bytes are the text of. As the code is written, and by no clause, the time is linear in
-/// the bytes but for the look-ups of names and identifiers, and no more memory is taken than the script and the
-/// words of one line need.
-/// `OutOfMemory` says nothing of the bytes.
+/// Parses the text of a script.
+///
+/// By design, not proved, the time is linear in the bytes, except for looking up names and identifiers, and it
+/// allocates only for the script and the words of one line. The caller must pass fewer than 2^32 - 1 bytes.
+///
+/// # Errors
+/// The first error in `bytes`, or `OutOfMemory`, which says nothing about `bytes`.
 pub fn read(alloc: Global, bytes: &[u8]) -> Result<Script, ReadRefusal>
     requires few { length bytes.now < 2 ^ 32 - 1 }
     ensures text { IfOk result (IsText bytes.now) }
@@ -58,9 +62,13 @@ fn read_all(draft: &mut Draft, alloc: Global, bytes: &[u8]) -> Result<(), ReadRe
     Ok(())
 }
 
-/// Adds what one line, without its end, says after those before it; a blank line, or a comment alone, adds
-/// nothing. `Fault` is the first cause for which the line is refused; `OutOfMemory` says nothing of the line.
-/// After either nothing is said of `draft`.
+/// Adds what `line`, without its line ending, says after the lines before it.
+///
+/// A blank line, or a line with only a comment, adds nothing.
+///
+/// # Errors
+/// `Fault` with the first error of the line, or `OutOfMemory`, which says nothing about the line. The contract
+/// then says nothing about `draft`.
 pub fn read_line(draft: &mut Draft, alloc: Global, line: &[u8]) -> Result<(), ScriptStop>
     ensures { IsStep result (Adds draft.old line.now draft.new) (IsFaulty draft.old line.now) }
 {

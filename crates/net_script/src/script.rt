@@ -1,24 +1,24 @@
-//! What a network is made of, and what happens to it.
+//! The parts of a network, and the commands to it.
 
 ghost use Rattle.std.specs.Prelude.{◌≡◌, ◌<◌, ◌≤◌, true, length, OnOk, OnErr, IfSome};
 ghost use Rattle.an_base.specs.declared.limits.TheConstants.{MOST_SWITCHES};
 ghost use Rattle.net_script.specs.Settings.{least_of, most_of};
 ghost use Rattle.net_script.specs.Scripts.{IsScript, CanAddSwitch, CanAddLink, CanAddHost, CanAddCommand, empty_script, restarts_of, lives_of, with_switch, with_link, with_host, with_command, with_setting};
-ghost use Rattle.text_lines.specs.Names.{place_of};
+ghost use Rattle.net_names.specs.Names.{place_of};
 
 use crate::command::{Command, is_restart};
 use crate::setting::{DEFAULT_BLOCKS, DEFAULT_EVENTS, DEFAULT_TICKS, Limits, Setting};
 use an_base::event::Event;
-use an_base::memory::OutOfMemory;
 use an_base::place::Place;
-use an_base::text::Word;
+use common_values::memory::OutOfMemory;
+use common_values::text::Word;
 use net_graph::wiring::{HostOn, LinkAt, SwitchAt, Wiring};
+use net_names::names::Names;
 use std::alloc::Global;
 use std::marker::Model;
-use text_lines::names::Names;
 
-/// A script: switches and hosts with their names, the links between their ports, commands in the
-/// order of their times, and settings.
+/// A script: switches and hosts with their names, the links between their ports, commands in
+/// order of time, and settings.
 #[derive(Drop)]
 pub struct Script {
     wiring: Wiring,
@@ -61,7 +61,7 @@ impl Model for Script {
 }
 
 impl Script {
-    /// The script without switches, hosts and commands, in which each setting is the default.
+    /// Creates a script without switches, hosts and commands, and with default settings.
     pub fn new(alloc: Global) -> Self
         ensures { result ≡ empty_script }
     {
@@ -81,7 +81,7 @@ impl Script {
         }
     }
 
-    /// The switches, the links between their ports, and the hosts.
+    /// Returns the switches, the links between their ports, and the hosts.
     pub fn wiring(&self) -> &Wiring
         ensures wires { result.now ≡ self.now.wires }
         ensures kept { IsScript self.now }
@@ -89,7 +89,7 @@ impl Script {
         &self.wiring
     }
 
-    /// The names of the switches, by the switch's place in the wiring.
+    /// Returns the names of the switches, in the order of the wiring.
     pub fn switch_names(&self) -> &Names
         ensures names { result.now ≡ self.now.switch_names }
         ensures kept { IsScript self.now }
@@ -97,7 +97,7 @@ impl Script {
         &self.switch_names
     }
 
-    /// The names of the hosts, by the host's place in the wiring.
+    /// Returns the names of the hosts, in the order of the wiring.
     pub fn names_of_hosts(&self) -> &Names
         ensures names { result.now ≡ self.now.names_of_hosts }
         ensures kept { IsScript self.now }
@@ -105,7 +105,7 @@ impl Script {
         &self.names_of_hosts
     }
 
-    /// The place of the switch that has this name.
+    /// Returns the index of the switch called `name`, if there is one.
     pub fn place_of_switch(&self, name: &[u8]) -> Option<Place>
         ensures place { result ≡ place_of self.now.switch_names name.now }
         ensures range { IfSome result (λ s. s < length self.now.wires.switches) }
@@ -115,7 +115,7 @@ impl Script {
         Some(Place(place as u8))
     }
 
-    /// The place of the host that has this name.
+    /// Returns the index of the host called `name`, if there is one.
     pub fn place_of_host(&self, name: &[u8]) -> Option<u16>
         ensures place { result ≡ place_of self.now.names_of_hosts name.now }
         ensures range { IfSome result (λ h. h < length self.now.wires.hosts) }
@@ -125,7 +125,7 @@ impl Script {
         Some(place as u16)
     }
 
-    /// The commands, in the order of their times.
+    /// Returns the commands in order of time.
     pub fn commands(&self) -> &[Command]
         ensures all { result.now ≡ self.now.commands }
         ensures kept { IsScript self.now }
@@ -133,14 +133,14 @@ impl Script {
         &self.commands
     }
 
-    /// The epoch at power-on, 0 if the text gives none.
+    /// Returns the epoch at power-on, 0 if the text gives none.
     pub fn epoch(&self) -> u64
         ensures { result ≡ self.now.epoch }
     {
         self.epoch
     }
 
-    /// The number of events after which a tick may come, 1 to 1,000,000, if the text gives one.
+    /// Returns the number of events, 1 to 1,000,000, after which a tick may come, if the text gives one.
     pub fn pace(&self) -> Option<u32>
         ensures pace { result ≡ self.now.pace }
         ensures kept { IsScript self.now }
@@ -148,7 +148,7 @@ impl Script {
         self.pace
     }
 
-    /// The limits of a run.
+    /// Returns the limits of a run.
     pub fn limits(&self) -> Limits
         ensures limits { result ≡ self.now.limits }
         ensures kept { IsScript self.now }
@@ -156,14 +156,14 @@ impl Script {
         self.limits
     }
 
-    /// Whether packets may take all legal routes, and not the least ones alone.
+    /// Reports whether packets may take all legal routes, not only the shortest ones.
     pub fn any_routes(&self) -> bool
         ensures { result ≡ self.now.any_routes }
     {
         self.any_routes
     }
 
-    /// How many lives its switches have: one each, and one for each restart, 0 to 126.
+    /// Returns the number of lives of the switches, 0 to 126: one for each switch and each restart.
     pub fn lives(&self) -> usize
         ensures lives { result ≡ lives_of self.now }
         ensures most { result ≤ MOST_SWITCHES }
@@ -171,7 +171,12 @@ impl Script {
         self.wiring().switches().len() + restarts(&self.commands)
     }
 
-    /// Adds a switch at the next place. If no memory is found nothing is added.
+    /// Adds `switch`, called `name`, at the next index.
+    ///
+    /// The caller must pass a switch that the script can get (`CanAddSwitch`).
+    ///
+    /// # Errors
+    /// `OutOfMemory` if an allocation fails. The script is then unchanged.
     pub fn add_switch(&mut self, name: Word, switch: SwitchAt) -> Result<(), OutOfMemory>
         requires can { CanAddSwitch self.old name switch }
         ensures ok { OnOk result (self.new ≡ with_switch self.old name switch) }
@@ -187,7 +192,10 @@ impl Script {
         }
     }
 
-    /// Adds a link between two ports that are not used. If no memory is found nothing is added.
+    /// Adds `link`. The caller must pass a link between two different unused ports (`CanAddLink`).
+    ///
+    /// # Errors
+    /// `OutOfMemory` if the allocation fails. The script is then unchanged.
     pub fn add_link(&mut self, link: LinkAt) -> Result<(), OutOfMemory>
         requires can { CanAddLink self.old link }
         ensures ok { OnOk result (self.new ≡ with_link self.old link) }
@@ -197,7 +205,12 @@ impl Script {
         Ok(())
     }
 
-    /// Adds a host at the next place. If no memory is found nothing is added.
+    /// Adds `host`, called `name`, at the next index.
+    ///
+    /// The caller must pass a host that the script can get (`CanAddHost`).
+    ///
+    /// # Errors
+    /// `OutOfMemory` if an allocation fails. The script is then unchanged.
     pub fn add_host(&mut self, name: Word, host: HostOn) -> Result<(), OutOfMemory>
         requires can { CanAddHost self.old name host }
         ensures ok { OnOk result (self.new ≡ with_host self.old name host) }
@@ -213,8 +226,12 @@ impl Script {
         }
     }
 
-    /// Adds the command of an event and the tick from which it is due, after the others. If no memory
-    /// is found nothing is added.
+    /// Adds the command with `event`, due at the tick `time`, after the others.
+    ///
+    /// The caller must pass a command that the script can get (`CanAddCommand`).
+    ///
+    /// # Errors
+    /// `OutOfMemory` if the allocation fails. The script is then unchanged.
     pub fn add_command(&mut self, time: u32, event: Event) -> Result<(), OutOfMemory>
         requires can { CanAddCommand self.old (record { time = time; event = event }) }
         ensures ok { OnOk result (self.new ≡ with_command self.old (record { time = time; event = event })) }
@@ -224,7 +241,7 @@ impl Script {
         Ok(())
     }
 
-    /// Sets a setting that is a number.
+    /// Sets `setting` to `number`. The caller must pass a number in the range of the setting.
     pub fn set(&mut self, setting: Setting, number: u64)
         requires least { least_of setting ≤ number }
         requires most { number ≤ most_of setting }
@@ -239,7 +256,7 @@ impl Script {
         }
     }
 
-    /// Lets packets take all legal routes.
+    /// Allows packets to take all legal routes.
     pub fn set_any_routes(&mut self)
         ensures { self.new ≡ record self.old { any_routes = true } }
     {

@@ -6,15 +6,15 @@ ghost use Rattle.net_script.specs.Settings.{least_of, most_of, has_come, with_co
 /// A setting that is a number.
 #[derive(Clone, Copy, PartialEq, Eq)]
 pub enum Setting {
-    /// The greatest tick.
+    /// The highest tick.
     Ticks,
-    /// The most events.
+    /// The maximum number of events.
     Events,
-    /// The blocks, of 64 bytes each.
+    /// The number of blocks, of 64 bytes each.
     Blocks,
     /// The epoch at power-on.
     Epoch,
-    /// The events after which a tick may come.
+    /// The number of events after which a tick may come.
     Pace,
 }
 
@@ -43,27 +43,27 @@ impl Setting {
     }
 }
 
-/// The greatest tick of a run, if no line says another.
+/// The highest tick of a run, unless a line sets it.
 pub const DEFAULT_TICKS: u32 = 4_096;
 
-/// The most events of a run, if no line says another number.
+/// The maximum number of events of a run, unless a line sets it.
 pub const DEFAULT_EVENTS: u32 = 2_000_000;
 
-/// The blocks of a run, if no line says another number.
+/// The number of blocks of a run, unless a line sets it.
 pub const DEFAULT_BLOCKS: u32 = 65_536;
 
 /// The limits of a run.
 #[derive(Clone, Copy, PartialEq, Eq)]
 pub struct Limits {
-    /// The greatest tick, 0 to 1,000,000.
+    /// The highest tick, 0 to 1,000,000.
     pub ticks: u32,
-    /// The most events, 2 to 16,000,000.
+    /// The maximum number of events, 2 to 16,000,000.
     pub events: u32,
-    /// The blocks, of 64 bytes each, 1 to 1,048,576.
+    /// The number of blocks, of 64 bytes each, 1 to 1,048,576.
     pub blocks: u32,
 }
 
-/// Which settings had their line.
+/// The settings whose lines were read.
 #[derive(Clone, Copy, PartialEq, Eq)]
 pub struct Came {
     /// `limit ticks`.

@@ -3,12 +3,12 @@ use Rattle.std.proofs.lemmas.List.{length_push}
 use Rattle.std.proofs.lemmas.Bool.{ltb-true, and_parts}
 use Rattle.std.proofs.lemmas.Option.{none-some, same_Some, cond_some}
 use Rattle.an_base.specs.declared.body.Body.{Body}
-use Rattle.an_base.proofs.ListLemmas.{get_front}
+use Rattle.common_values.proofs.ListLemmas.{get_front}
 use Rattle.ordered_link.specs.Sending.{Sending, highest, may_send, next_to_send, send_next, is_waiting, with_pushed, push, sent_by_push, is_outstanding, forget, acknowledge, sent_by_ack, send_again}
 use Rattle.ordered_link.specs.Receiving.{Receiving, last, come, hold, accept, has_come, follow_with}
 use Rattle.ordered_link.specs.Session.{Session, Numbered, IsFrontOf, Event, numbered, put_out, sends, body_comes, ack_comes, happens, run, start}
 use Rattle.ordered_link.specs.Session.Event.{Push, More, Send_again, Body_comes, Follow, Answer, Ack_comes}
-use Rattle.an_base.proofs.TestLemmas.{by_choice}
+use Rattle.common_values.proofs.TestLemmas.{by_choice}
 
 -- the body with this number, from 1, is this one
 pub record IsBody (pushed : List Body) (k : ℕ) (body : Body) : Type 0 where

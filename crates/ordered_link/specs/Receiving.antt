@@ -1,4 +1,4 @@
--- One direction of a session at its receiver: which bodies are accepted, held or passed over, and which are
+-- One direction of a session at its receiver: which bodies are accepted, held or ignored, and which are
 -- acknowledged.
 
 use Rattle.std.specs.Prelude.{◌≡◌, ℕ, zero, suc, ◌+◌, ◌%◌, ◌<◌, ◌≤◌, ◌==◌, ◌||◌, nat_le, List, [], ◌∷◌, ◌++◌}
@@ -9,12 +9,12 @@ use Rattle.ordered_link.specs.declared.receiver.Verdict.{Verdict}
 use Rattle.ordered_link.specs.declared.receiver.Verdict.TheVariants.{Accepted, Held, Repeat, Ahead}
 use Rattle.ordered_link.specs.declared.receiver.Early.{Early}
 
--- the bodies accepted, of which the k-th has the number k, and which body is held of each number
+-- the bodies accepted, the k-th of which has number k, and the body held for each number
 pub record Receiving : Type 0 where
   pub accepted : List Body
   pub held : ℕ → Option Body
 
--- nothing came
+-- nothing was received
 abbrev pub untouched : Receiving
 untouched = record { accepted = []; held = λ number. None }
 
@@ -22,20 +22,21 @@ untouched = record { accepted = []; held = λ number. None }
 abbrev pub last : Receiving → ℕ
 last receiving = length receiving.accepted
 
--- a body that was accepted or is held
+-- whether body `number` was accepted or is held
 abbrev pub has_come : ℕ → Receiving → Bool
 has_come number receiving = nat_le number (last receiving) || is_some (receiving.held number)
 
--- a body is accepted next; and this body, or none, is held of a number
+-- the receiver after it has accepted `body`
 abbrev pub accept : Body → Receiving → Receiving
 accept body receiving = record receiving { accepted = receiving.accepted ++ body ∷ [] }
 
+-- the receiver that holds this body, or none, for `number`
 abbrev pub hold : ℕ → Option Body → Receiving → Receiving
 hold number body receiving =
     record receiving { held = λ other. if other == number then body else receiving.held other }
 
--- The body with this number comes: a repeat; or the wanted one, which is accepted; or one of the seven after
--- it, which is held; or one that is ahead of these.
+-- the receiver after body `number` comes: a repeat; or the wanted one, which is accepted; or one of the seven after
+-- it, which is held; or one ahead of these
 abbrev pub come : ℕ → Body → Receiving → Receiving
 come number body receiving =
     if has_come number receiving then receiving
@@ -43,8 +44,8 @@ come number body receiving =
     else if nat_le number (last receiving + 8) then hold number (Some body) receiving
     else receiving
 
--- what is answered to it: that it is accepted; of a repeat the number of the last accepted body; or the
--- wanted number and its own
+-- the verdict on body `number`: accepted; a repeat, with the number of the last accepted body; or held or ahead,
+-- with the wanted number and its own
 abbrev pub verdict : ℕ → Body → Receiving → Verdict
 verdict number body receiving =
     if has_come number receiving then Repeat (last receiving)
@@ -52,41 +53,43 @@ verdict number body receiving =
     else if nat_le number (last receiving + 8) then Held (last receiving + 1) number
     else Ahead (last receiving + 1) number
 
--- the wanted body, if it is held, is accepted
+-- the receiver after it has accepted the wanted body, if that is held
 abbrev pub follow_with : Option Body → Receiving → Receiving
 follow_with None receiving = receiving
 follow_with (Some body) receiving = hold (last receiving + 1) None (accept body receiving)
 
+-- the receiver after it has accepted the wanted body, if it holds it
 abbrev pub follow : Receiving → Receiving
 follow receiving = follow_with (receiving.held (last receiving + 1)) receiving
 
--- With a wanted body each held one that follows it is accepted, of which there are at most seven
+-- the receiver after it has accepted up to `most` held bodies that follow each other
 abbrev pub follow_all : ℕ → Receiving → Receiving
 follow_all zero receiving = receiving
 follow_all (suc most) receiving = follow_all most (follow receiving)
 
+-- the receiver after this verdict: if the body is accepted, so are the held ones that follow it, at most seven
 abbrev pub after_verdict : Verdict → Receiving → Receiving
 after_verdict (Accepted body) receiving = follow_all 7 receiving
 after_verdict (Held wanted got) receiving = receiving
 after_verdict (Repeat last) receiving = receiving
 after_verdict (Ahead wanted got) receiving = receiving
 
--- a body with this number comes; if it is accepted, so are the held ones that follow it
+-- the receiver after body `number` comes, and the held ones that follow it are accepted, if it is
 abbrev pub received : ℕ → Body → Receiving → Receiving
 received number body receiving = after_verdict (verdict number body receiving) (come number body receiving)
 
--- the bodies that are accepted by one that comes, in the order of their numbers
+-- the bodies that are accepted when body `number` comes, in the order of their numbers
 abbrev pub accepted_by : ℕ → Body → Receiving → List Body
 accepted_by number body receiving = drop (last receiving) (received number body receiving).accepted
 
--- all that were accepted up to now are acknowledged, unless the body is too far ahead
+-- whether all bodies accepted up to now are acknowledged: they are, unless the body is too far ahead
 abbrev pub is_acknowledged : Verdict → Bool
 is_acknowledged (Accepted body) = true
 is_acknowledged (Held wanted got) = true
 is_acknowledged (Repeat last) = true
 is_acknowledged (Ahead wanted got) = false
 
--- What a receiver keeps: it need not keep the bodies that it accepted
+-- what a receiver keeps; it need not keep the bodies that it accepted
 pub record ReceiverOf : Type 0 where
   pub last : ℕ
   pub places : List (Option Early)
@@ -96,7 +99,7 @@ abbrev pub early : ℕ → Option Body → Option Early
 early number None = None
 early number (Some body) = Some (record { k = number; body = body })
 
--- what is kept is the number of the accepted bodies, and each held body in the place of its number
+-- the receiver keeps the number of accepted bodies, and each held body in the slot of its number
 pub record IsLeftOf (kept : ReceiverOf) (receiving : Receiving) : Type 0 where
   pub last : kept.last ≡ length receiving.accepted
   pub held : (number : ℕ) → kept.last < number → number ≤ kept.last + 8

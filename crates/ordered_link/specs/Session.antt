@@ -7,12 +7,12 @@ use Rattle.ordered_link.specs.Sending.{Sending, unused, push, sent_by_push, ackn
 use Rattle.ordered_link.specs.Sending.{send_again, is_outstanding, next_to_send, send_next}
 use Rattle.ordered_link.specs.Receiving.{Receiving, untouched, last, come, follow}
 
--- a body on its way, with its number
+-- a body in flight, with its number
 pub record Numbered : Type 0 where
   pub number : ℕ
   pub body : Body
 
--- The two ends, with all that was ever put on the wires: each body with its number, and the number of each
+-- the two ends, with all that was ever put on the wires: each body with its number, and the number of each
 -- acknowledgement
 pub record Session : Type 0 where
   pub sending : Sending
@@ -20,13 +20,13 @@ pub record Session : Type 0 where
   pub bodies : List Numbered
   pub acks : List ℕ
 
--- nothing was sent and nothing came
+-- nothing was sent or received
 abbrev pub start : Session
 start = record { sending = unused; receiving = untouched; bodies = []; acks = [] }
 
--- What may happen next. More: the first waiting body is sent. Follow: the wanted body is accepted, if it is
--- held. Answer: an acknowledgement goes out. A frame that was ever sent may come at any time, any number of
--- times, or never; `which` counts from the newest, 0.
+-- an event. More: the first waiting body is sent. Follow: the wanted body is accepted, if it is held. Answer: an
+-- acknowledgement goes out. A frame that was ever sent can come at any time, any number of times, or never;
+-- `which` counts from the newest, 0
 pub data Event : Type 0 where
   Push : (body : Body) → (now : ℕ) → Event
   More : (now : ℕ) → Event
@@ -36,31 +36,33 @@ pub data Event : Type 0 where
   Answer : Event
   Ack_comes : (which : ℕ) → (now : ℕ) → Event
 
--- the body with this number goes out, if one does
+-- this body with its number, if there is one
 abbrev pub numbered : ℕ → Option Body → List Numbered
 numbered number None = []
 numbered number (Some body) = record { number = number; body = body } ∷ []
 
+-- the body with this number that goes out, if one does
 abbrev pub put_out : Sending → Option ℕ → List Numbered
 put_out sending None = []
 put_out sending (Some number) = numbered number (slice_get sending.pushed (number - 1))
 
--- the sender becomes this, and the body with this number, if there is one, is put on the wires
+-- the session after its sender became `sending`, and the body with this number, if there is one, was put on the wires
 abbrev pub sends : Sending → Option ℕ → Session → Session
 sends sending number session =
     record session { sending = sending; bodies = put_out sending number ++ session.bodies }
 
--- None: there is no such body, and nothing happens
+-- the session after this body comes; nothing changes if there is none
 abbrev pub body_comes : Option Numbered → Session → Session
 body_comes None session = session
 body_comes (Some item) session = record session { receiving = come item.number item.body session.receiving }
 
--- None: there is no such acknowledgement, and nothing happens
+-- the session after this acknowledgement comes; nothing changes if there is none
 abbrev pub ack_comes : Option ℕ → ℕ → Session → Session
 ack_comes None now session = session
 ack_comes (Some number) now session =
     sends (acknowledge number now session.sending) (sent_by_ack number session.sending) session
 
+-- the session after an event
 abbrev pub happens : Event → Session → Session
 happens (Push body now) session =
     sends (push body now session.sending) (sent_by_push body session.sending) session
@@ -74,11 +76,11 @@ happens Follow session = record session { receiving = follow session.receiving }
 happens Answer session = record session { acks = last session.receiving ∷ session.acks }
 happens (Ack_comes which now) session = ack_comes (slice_get session.acks which) now session
 
--- a whole schedule
+-- the session after a whole schedule
 abbrev pub run : List Event → Session → Session
 run [] session = session
 run (event ∷ events) session = run events (happens event session)
 
--- the accepted bodies are a front of those pushed, in their order
+-- the accepted bodies are a prefix of those pushed
 abbrev pub IsFrontOf : List Body → List Body → Type 0
 IsFrontOf accepted pushed = (rest : List Body) × (accepted ++ rest ≡ pushed)

@@ -1,10 +1,11 @@
-//! Ordered delivery of bodies over wires that lose, repeat and reorder frames: the two ends of one
-//! direction of a session, with a window of eight bodies.
+//! autonet, switch: sliding-window protocol that delivers messages in order over a lossy link.
 //!
-//! It stands on an_base. Its contract: a `Sender` and a `Receiver` that stand for a session stand after
-//! each call for the session after it, with the answers that its definition gives; and whatever the
-//! wires do, the bodies accepted are a front of those pushed, and no body counts as acknowledged that
-//! was not accepted.
+//! It has the two ends of one direction of a session, over wires that lose, repeat and reorder frames. The window
+//! has eight bodies.
+//!
+//! It depends on `an_base` for bodies. Its contract: a `Sender` and a `Receiver` that represent a session represent,
+//! after each call, the session after it, and return what its definition gives; and whatever the wires do, the
+//! accepted bodies are a prefix of those pushed, and no body counts as acknowledged before it is accepted.
 #![tactic(auto)]
 
 pub mod law;

@@ -1,4 +1,4 @@
-//! The receiving end of a session. The eight numbers from the wanted one on have a place each, for early bodies.
+//! The receiving end of a session. The wanted number and the seven after it have one slot each, for early bodies.
 
 ghost use Rattle.std.specs.Prelude.{◌≡◌, ◌+◌, ◌%◌, ◌<◌, None};
 ghost use Rattle.ordered_link.specs.Receiving.{Receiving, IsLeftOf, come, follow, last, untouched, verdict};
@@ -6,7 +6,7 @@ ghost use Rattle.ordered_link.specs.Receiving.{Receiving, IsLeftOf, come, follow
 use an_base::body::Body;
 use std::marker::Model;
 
-/// A body that came before one with a lower number did.
+/// A body that came before one with a lower number.
 #[derive(Drop)]
 pub struct Early {
     /// Its number.
@@ -15,7 +15,7 @@ pub struct Early {
     pub body: Body,
 }
 
-/// What becomes of a body that comes.
+/// What happens to a body that comes.
 #[derive(Drop)]
 pub enum Verdict {
     /// It is the wanted one, and is accepted.
@@ -27,12 +27,12 @@ pub enum Verdict {
         /// The number that came.
         got: u32,
     },
-    /// It was accepted before, or is held.
+    /// It was accepted before, or is held already.
     Repeat {
         /// The number of the last body accepted; 0 for none.
         last: u32,
     },
-    /// It is beyond those that can be held, and is passed over.
+    /// It is beyond those that can be held, and is ignored.
     Ahead {
         /// The number that is wanted.
         wanted: u32,
@@ -41,8 +41,10 @@ pub enum Verdict {
     },
 }
 
-/// The receiver of one direction of a session. It accepts bodies in the order of their numbers, from
-/// 1, and holds those that come up to seven numbers early.
+/// The receiver of one direction of a session.
+///
+/// It accepts bodies in the order of their numbers, from 1, and holds those that come up to seven
+/// numbers early.
 #[derive(Drop)]
 pub struct Receiver {
     last: u32,
@@ -57,7 +59,7 @@ impl Model for Receiver {
     ghost view = { λ r. record { last = r.last; places = r.places } };
 }
 
-// The place of a number: those of a window of eight have different places.
+// The slot of a number: the numbers of a window of eight have different ones.
 fn place_of(k: u32) -> usize
     ensures place { result ≡ k % 8 }
     ensures below { result < 8 }
@@ -66,7 +68,7 @@ fn place_of(k: u32) -> usize
 }
 
 impl Receiver {
-    /// A receiver to which nothing came.
+    /// Creates a receiver that has received nothing.
     pub fn new() -> Self
         ensures { IsLeftOf result untouched }
     {
@@ -76,7 +78,7 @@ impl Receiver {
         }
     }
 
-    /// The number of the last body accepted; 0 for none.
+    /// Returns the number of the last body accepted, 0 for none.
     pub fn last(&self) -> u32
         ensures last { result ≡ self.now.last }
         ensures stands { (r : Receiving) → IsLeftOf self.now r → result ≡ last r }
@@ -84,7 +86,7 @@ impl Receiver {
         self.last
     }
 
-    /// The body with the number `k` comes: it is accepted, held, a repeat, or ahead.
+    /// Receives `body` with number `k`: it is accepted, held, a repeat, or ahead.
     pub fn on_carry(&mut self, k: u32, body: Body) -> Verdict
         ensures { (r : Receiving) → IsLeftOf self.old r → IsLeftOf self.new (come k body r) × (result ≡ verdict k body r) }
     {
@@ -113,8 +115,9 @@ impl Receiver {
         }
     }
 
-    /// The held body that is wanted, which is now accepted; none exactly if it is not held, and
-    /// then nothing changes.
+    /// Accepts the wanted body if it is held, and returns it.
+    ///
+    /// Returns `None`, and changes nothing, if and only if it is not held.
     pub fn next(&mut self) -> Option<Body>
         ensures { (r : Receiving) → IsLeftOf self.old r → IsLeftOf self.new (follow r) × (result ≡ r.held (last r + 1)) }
     {

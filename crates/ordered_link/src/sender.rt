@@ -1,23 +1,26 @@
-//! The sending end of a session. One queue has outstanding bodies, then those that wait; a place tells a number.
+//! The sending end of a session. One queue has the outstanding bodies, then those that wait; a body's position in it
+//! gives its number.
 
 ghost use Rattle.std.specs.Prelude.{◌≡◌, ◌+◌, ◌-◌, ◌<◌, ◌≤◌, ◌^◌, ℕ, length, OnErr, IfOk, IfSome, IfNone, nat_lt, Some, slice_get, slice_index_or, drop};
 ghost use Rattle.ordered_link.specs.Sending.{Sending, IsDue, IsOut, IsKeptOf, acknowledge, forget, next_to_send, push, send_again, send_next, sent_by_ack, sent_by_push, unused};
 
 use an_base::body::Body;
-use an_base::memory::OutOfMemory;
+use common_values::memory::OutOfMemory;
 use std::alloc::Global;
 use std::collections::VecDeque;
 use std::marker::Model;
 
-/// The most bodies that are sent and not yet acknowledged.
+/// The largest number of bodies that are sent and not yet acknowledged.
 pub const WINDOW: usize = 8;
 
-/// After how many ticks an outstanding body is sent again.
+/// The number of ticks after which an outstanding body is sent again.
 pub const PATIENCE: u64 = 4;
 
-/// The sender of one direction of a session. Bodies are numbered from 1 in the order in which they
-/// are pushed; at most eight are outstanding, which is sent and not acknowledged, and the others
-/// wait. Time is counted in ticks. It keeps the bodies that are not acknowledged, and no others.
+/// The sender of one direction of a session.
+///
+/// Bodies are numbered from 1 in the order in which they are pushed. At most eight are outstanding (sent
+/// and not acknowledged); the others wait. Time is counted in ticks. The sender keeps only the bodies
+/// that are not acknowledged.
 #[derive(Drop)]
 pub struct Sender {
     acked: u32,
@@ -38,8 +41,7 @@ impl Model for Sender {
 }
 
 impl Sender {
-    /// A sender to which nothing was pushed, without taking memory. The allocator is kept for the
-    /// bodies that come.
+    /// Creates a sender without bodies, without allocating. It keeps `alloc` for the bodies that come.
     pub fn new(alloc: Global) -> Self
         ensures { IsKeptOf result unused }
     {
@@ -51,9 +53,13 @@ impl Sender {
         }
     }
 
-    /// Pushes a body at this tick. It is sent now, with the number that is answered, unless eight
-    /// bodies are outstanding or another one waits; then it waits, and none is answered. After want of
-    /// memory the sender is as it was.
+    /// Queues `body` at tick `now`, and returns its number if it is sent now.
+    ///
+    /// Returns `None` if eight bodies are outstanding or another one waits. Fewer than 2^31 bodies must have
+    /// been pushed before.
+    ///
+    /// # Errors
+    /// `OutOfMemory` if the allocation fails. The sender is then unchanged.
     pub fn push(&mut self, body: Body, now: u64) -> Result<Option<u32>, OutOfMemory>
         requires { self.old.acked + length self.old.bodies < 2 ^ 31 }
         ensures ok { IfOk result (λ number. (s : Sending) → IsKeptOf self.old s → IsKeptOf self.new (push body now s) × (number ≡ sent_by_push body s)) }
@@ -68,8 +74,9 @@ impl Sender {
         Ok(self.more(now))
     }
 
-    /// The number of the first waiting body, which is sent at this tick; none exactly if eight are
-    /// outstanding or none waits, and then nothing changes.
+    /// Sends the first waiting body at tick `now`, and returns its number.
+    ///
+    /// Returns `None`, and changes nothing, if and only if eight are outstanding or none waits.
     pub fn more(&mut self, now: u64) -> Option<u32>
         ensures sent { (s : Sending) → IsKeptOf self.old s → IsKeptOf self.new (send_next now s) × (result ≡ next_to_send s) }
         ensures out { IfSome result (IsOut self.new) }
@@ -82,9 +89,10 @@ impl Sender {
         Some(self.acked + self.outstanding as u32)
     }
 
-    /// An acknowledgement of all bodies up to `n` comes at this tick. It counts if `n` is the number
-    /// of an outstanding body: then these bodies are acknowledged, and the first waiting one is sent,
-    /// with the number that is answered. None exactly if it does not count or none waits.
+    /// Records an acknowledgement, at tick `now`, of all bodies up to `n`.
+    ///
+    /// It counts if body `n` is outstanding. The first waiting body, if any, is then sent, and its number
+    /// returned. Returns `None` if and only if the acknowledgement does not count or no body waits.
     pub fn on_ack(&mut self, n: u32, now: u64) -> Option<u32>
         ensures sent { (s : Sending) → IsKeptOf self.old s → IsKeptOf self.new (acknowledge n now s) × (result ≡ sent_by_ack n s) }
         ensures out { IfSome result (IsOut self.new) }
@@ -96,8 +104,9 @@ impl Sender {
         self.more(now)
     }
 
-    /// The lowest number of an outstanding body that was last sent at least four ticks ago; none
-    /// exactly if there is none.
+    /// Returns the lowest-numbered outstanding body that was last sent at least four ticks ago.
+    ///
+    /// Returns `None` if and only if there is none.
     pub fn due(&self, now: u64) -> Option<u32>
         ensures out { IfSome result (IsOut self.now) }
         ensures due { IfSome result (λ k. (s : Sending) → IsKeptOf self.now s → IsDue s now k) }
@@ -109,7 +118,7 @@ impl Sender {
         Some(self.acked + 1 + place as u32)
     }
 
-    /// The outstanding body with the number `k` is sent again at this tick.
+    /// Records that body `k`, which must be outstanding, is sent again at tick `now`.
     pub fn resent(&mut self, k: u32, now: u64)
         requires { IsOut self.old k }
         ensures { (s : Sending) → IsKeptOf self.old s → IsKeptOf self.new (send_again k now s) }
@@ -117,7 +126,7 @@ impl Sender {
         self.sent[(k - self.acked - 1) as usize] = now;
     }
 
-    /// The outstanding body with the number `k`.
+    /// Returns body `k`, which must be outstanding.
     pub fn body(&self, k: u32) -> &Body
         requires { IsOut self.now k }
         ensures { (s : Sending) → IsKeptOf self.now s → slice_get s.pushed (k - 1) ≡ Some result.now }
@@ -125,7 +134,7 @@ impl Sender {
         &self.bodies[(k - self.acked - 1) as usize]
     }
 
-    /// How many bodies were pushed, at most 2^31.
+    /// Returns the number of bodies that were pushed, at most 2^31.
     pub fn pushed(&self) -> u32
         ensures pushed { result ≡ self.now.acked + length self.now.bodies }
         ensures stands { (s : Sending) → IsKeptOf self.now s → result ≡ length s.pushed }
@@ -133,14 +142,14 @@ impl Sender {
         self.acked + self.bodies.len() as u32
     }
 
-    /// Whether some body that was pushed is not acknowledged.
+    /// Reports whether some body that was pushed is not acknowledged.
     pub fn unacked(&self) -> bool
         ensures { (s : Sending) → IsKeptOf self.now s → result ≡ nat_lt s.acked (length s.pushed) }
     {
         !self.bodies.is_empty()
     }
 
-    // The first outstanding bodies, so many, are acknowledged.
+    // Marks the first `count` outstanding bodies as acknowledged.
     fn forget(&mut self, count: usize)
         requires { count ≤ length self.old.sent }
         ensures { (s : Sending) → IsKeptOf self.old s → IsKeptOf self.new (forget (s.acked + count) s) }
@@ -152,7 +161,7 @@ impl Sender {
     }
 }
 
-// The first bodies, so many, are given up.
+// Drops the first `count` bodies.
 fn drop_front(bodies: &mut VecDeque<Body>, count: usize)
     requires { count ≤ length bodies.old.items }
     ensures { bodies.new.items ≡ drop count bodies.old.items }
@@ -162,7 +171,7 @@ fn drop_front(bodies: &mut VecDeque<Body>, count: usize)
     }
 }
 
-// The first place with a tick that is at most the latest.
+// The first position with a tick that is at most `latest`.
 fn first_until(ticks: &[u64], latest: u64) -> Option<usize>
     ensures some { IfSome result (λ i. (i < length ticks.now) × (slice_index_or ticks.now i 0 ≤ latest)) }
     ensures least { IfSome result (λ i. (j : ℕ) → j < i → latest < slice_index_or ticks.now j 0) }

@@ -1,4 +1,4 @@
-//! Reading a source to its end, and writing all of some bytes, however few one call gives or takes.
+//! Reads a source to its end, and writes all of some bytes, however few one call gives or takes.
 
 ghost use Rattle.std.specs.Prelude.{◌+◌, ◌<◌, ◌≤◌, length, IfOk, OnOk, OnErr, IfErr};
 ghost use Rattle.outside.specs.Told.{Gave, GaveAtMost, IsAtEnd, Gains, GainsFront, IsNoLess, Failed};
@@ -6,29 +6,33 @@ ghost use Rattle.outside.specs.Stops.{OnFault, IfOver};
 
 use crate::sink::{Sink, Took};
 use crate::source::{Got, Source};
-use an_base::text::Bytes;
+use common_values::text::Bytes;
 use std::alloc::Global;
 
-/// Why a source was not read to its end, or not kept whole.
+/// The reason why `read_all` returns no bytes.
 #[derive(Debug, Drop)]
 pub enum ReadStop {
-    /// A read failed, so the source's count of faults rose. What was read before is dropped.
+    /// A read failed, so the source's count of failures rose. The bytes read before are dropped.
     Fault,
-    /// These bytes, the first of the source, are more than the limit. The source may have more.
+    /// These first bytes of the source are more than the limit. The source can have more.
     Over(Bytes),
-    /// No memory was found. What was read before is dropped.
+    /// An allocation failed. The bytes read before are dropped.
     OutOfMemory,
 }
 
-/// A write failed, so the sink's count of faults rose.
+/// A write failed, so the sink's count of failures rose.
 #[derive(Clone, Copy, Debug, PartialEq, Eq)]
 pub struct WriteFault;
 
-/// How many bytes of a source are asked for at once.
+/// The number of bytes that one read asks for.
 pub const PIECE: usize = 4096;
 
-/// Reads a source to its end. The limit is a number of bytes; a source that has more is read no
-/// further than it takes to know that, which is one piece past the limit at most.
+/// Reads `source` to its end, and returns its bytes: at most `limit` of them.
+///
+/// # Errors
+/// `Fault` if a read fails, with at most `limit` bytes taken. `Over` if the source gave more than
+/// `limit` bytes. `OutOfMemory` if an allocation fails. At most `PIECE` bytes more than `limit` are
+/// taken from the source in every case.
 #[tactic(auto, using(crate::proofs::ToldLemmas::with_front_none, crate::proofs::ToldLemmas::with_front_twice, crate::proofs::ToldLemmas::Rose_later))]
 pub fn read_all<S: Source>(alloc: Global, source: &mut S, limit: usize) -> Result<Vec<u8>, ReadStop>
     ensures all { IfOk result (λ v. Gave (S.seen source.old) (S.seen source.new) v.items) }
@@ -61,7 +65,10 @@ pub fn read_all<S: Source>(alloc: Global, source: &mut S, limit: usize) -> Resul
     }
 }
 
-/// Writes all of the bytes, in order. If a write fails, a front of them was written.
+/// Writes all of `bytes`, in order.
+///
+/// # Errors
+/// `WriteFault` if a write fails. A prefix of `bytes` has then been written.
 #[tactic(auto, using(crate::proofs::ToldLemmas::with_back_none, crate::proofs::ToldLemmas::with_back_twice, crate::proofs::ToldLemmas::Rose_later))]
 pub fn write_all<K: Sink>(sink: &mut K, bytes: &[u8]) -> Result<(), WriteFault>
     ensures all { OnOk result (Gains (K.seen sink.old) (K.seen sink.new) bytes.now) }

@@ -1,9 +1,10 @@
-//! Where bytes come from and where they go: sources and sinks, each with a count of its faults.
+//! floor, base: where bytes come from and where they go.
 //!
-//! It stands on an_base. Its contract: what a source gave and a sink took is told by lists of bytes
-//! if the object tells them, and a call fails only if the object's count of faults rose. The
-//! memory source and sink tell everything; those over std's readers and writers tell nothing of
-//! their bytes.
+//! Bytes come from a source and go to a sink. Each counts its failed calls.
+//!
+//! It depends on `common_values`. Its contract: if the bytes of a source or a sink are known, lists of bytes
+//! say what it gave or took; and a call fails only if the count of failures rose. Everything about the source
+//! and the sink in memory is known, and nothing about the bytes of std's readers and writers.
 #![tactic(auto)]
 
 pub mod all;

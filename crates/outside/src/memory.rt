@@ -1,4 +1,4 @@
-//! A source and a sink of which contracts tell every answer, for tests: a list says which calls are to fail.
+//! A source and a sink for tests. Contracts say what every call returns; a list says which calls fail.
 
 ghost use Rattle.std.specs.Prelude.{◌≡◌, ◌==◌, ◌<◌, ◌≤◌, [], length, take, IfOk};
 ghost use Rattle.std.specs.List.{list_any};
@@ -8,7 +8,7 @@ ghost use Rattle.outside.specs.Memory.{seen_source, seen_sink, read_answer, afte
 
 use crate::sink::{Sink, Took};
 use crate::source::{Got, Source};
-use an_base::memory::OutOfMemory;
+use common_values::memory::OutOfMemory;
 use std::alloc::Global;
 use std::marker::Model;
 
@@ -28,9 +28,10 @@ fn copy_front(buf: &mut [u8], bytes: &[u8], n: usize)
     buf[..n].copy_from_slice(&bytes[..n]);
 }
 
-/// A source over bytes in memory. Of its calls, numbered from 1, exactly those that are listed fail.
-/// Contracts see the bytes that are left, the list, the numbers of calls and of faults, which stay
-/// once they are 2^64 - 1, and the most bytes that one read gives.
+/// A source of bytes in memory. A call fails if and only if its number, from 1, is listed.
+///
+/// Contracts see the bytes that are left, the list, the numbers of calls and of failures, which stay
+/// at 2^64 - 1 once they reach it, and the most bytes that one read gives.
 #[derive(Drop)]
 pub struct MemorySource {
     bytes: Vec<u8>,
@@ -53,7 +54,9 @@ impl Model for MemorySource {
 }
 
 impl MemorySource {
-    /// A source of these bytes, at most `cut` of them, at least 1, for each read.
+    /// Creates a source of `bytes`. Each read gives at most `cut` of them; calls listed in `failing` fail.
+    ///
+    /// The caller must pass a `cut` of at least 1.
     pub fn new(bytes: Vec<u8>, failing: Vec<u32>, cut: usize) -> MemorySource
         requires { 1 ≤ cut }
         ensures { result ≡ record { left = bytes.items; failing = failing.items; calls = 0; faults = 0; cut = cut } }
@@ -98,9 +101,10 @@ impl Source for MemorySource {
     }
 }
 
-/// A sink in memory, with room for so many bytes. Of its calls, numbered from 1, exactly
-/// those fail that are listed, or that find no room. Contracts see what was written, the room that is left, the
-/// list, and the numbers of calls and of faults, which stay once they are 2^64 - 1.
+/// A sink in memory with a fixed space. A call fails if and only if its number, from 1, is listed, or no space is left.
+///
+/// Contracts see the bytes written, the space that is left, the list, and the numbers of calls and of failures, which
+/// stay at 2^64 - 1 once they reach it.
 #[derive(Drop)]
 pub struct MemorySink {
     written: Vec<u8>,
@@ -122,8 +126,12 @@ impl Model for MemorySink {
 }
 
 impl MemorySink {
-    /// An empty sink with room for `room` bytes. It takes the memory for them now, and no write
-    /// takes more.
+    /// Creates an empty sink with space for `room` bytes. Calls listed in `failing` fail.
+    ///
+    /// It allocates all memory now: no write allocates.
+    ///
+    /// # Errors
+    /// `OutOfMemory` if the allocation fails.
     pub fn new(alloc: Global, room: usize, failing: Vec<u32>) -> Result<MemorySink, OutOfMemory>
         ensures { IfOk result (λ sink. sink ≡ record { written = []; room = room; failing = failing.items; calls = 0; faults = 0 }) }
     {
@@ -136,7 +144,7 @@ impl MemorySink {
         })
     }
 
-    /// What was written.
+    /// Returns the bytes written.
     pub fn bytes(&self) -> &[u8]
         ensures { result.now ≡ self.now.written }
     {

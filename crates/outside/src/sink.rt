@@ -1,26 +1,26 @@
-//! All that code asks of where its bytes go. One write may take fewer bytes than it is given, or fail.
+//! What code needs of the place that its bytes go to. One write can take fewer bytes than it is given, or fail.
 
 ghost use Rattle.std.specs.Prelude.{◌<◌, ◌≤◌, length, take};
 ghost use Rattle.outside.specs.Told.{Seen, Gains, IsNoLess, OnlyFailed};
 ghost use Rattle.outside.specs.Answers.{IfTaken, OnNotTaken};
 
-/// The answer to a write.
+/// The result of a write.
 #[derive(Clone, Copy, Debug, PartialEq, Eq)]
 pub enum Took {
-    /// So many bytes, at least one, were taken from the front.
+    /// The first n bytes were taken, and n is at least 1.
     Part(usize),
-    /// Nothing was taken, and the count of faults rose.
+    /// Nothing was taken, and the count of failures rose.
     Failed,
 }
 
-/// Where bytes go to.
+/// A place that bytes go to.
 pub trait Sink {
-    /// What is seen of it: the bytes that were written, if they are told, and how many faults
-    /// there were.
+    /// What contracts see: the bytes written, if they are known, and the number of failures.
     ghost seen: { Self → Seen };
 
-    /// Writes some bytes, at least one, from the front of a piece that is not empty. After `Failed`
-    /// what was written is as it was.
+    /// Writes a prefix of `bytes`, at least one byte. After `Failed` the bytes written are unchanged.
+    ///
+    /// The caller must pass at least one byte.
     fn write(&mut self, bytes: &[u8]) -> Took
         requires { 0 < length bytes.now }
         ensures count { IfTaken result (λ n. (1 ≤ n) × (n ≤ length bytes.now)) }

@@ -1,28 +1,28 @@
-//! All that code asks of where its bytes come from. One read may give fewer bytes than there is room for, or fail.
+//! What code needs of the place that its bytes come from. One read can give fewer bytes than fit, or fail.
 
 ghost use Rattle.std.specs.Prelude.{◌<◌, ◌≤◌, length, take};
 ghost use Rattle.outside.specs.Told.{Seen, Gave, Ends, IsNoLess, OnlyFailed};
 ghost use Rattle.outside.specs.Answers.{IfPart, OnEnd, OnFailed};
 
-/// The answer to a read.
+/// The result of a read.
 #[derive(Clone, Copy, Debug, PartialEq, Eq)]
 pub enum Got {
-    /// So many bytes, at least one, stand at the front of the buffer.
+    /// The first n bytes of the buffer were read, and n is at least 1.
     Part(usize),
     /// Nothing is left.
     End,
-    /// Nothing was read, and the count of faults rose.
+    /// Nothing was read, and the count of failures rose.
     Failed,
 }
 
-/// Where bytes come from.
+/// A place that bytes come from.
 pub trait Source {
-    /// What is seen of it: the bytes that are left, if they are told, and how many faults there
-    /// were.
+    /// What contracts see: the bytes that are left, if they are known, and the number of failures.
     ghost seen: { Self → Seen };
 
-    /// Reads some bytes, at least one, to the front of a buffer that is not empty. After `End` and
-    /// `Failed` what is left is as it was.
+    /// Reads at least one byte to the front of `buf`. After `End` and `Failed` nothing has been read.
+    ///
+    /// The caller must pass a buffer of at least one byte.
     fn read(&mut self, buf: &mut [u8]) -> Got
         requires { 0 < length buf.old }
         ensures count { IfPart result (λ n. (1 ≤ n) × (n ≤ length buf.old)) }

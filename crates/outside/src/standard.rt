@@ -1,4 +1,4 @@
-//! Sources over std's readers and sinks over its writers. One type serves both, since only faults are told.
+//! Sources over std's readers and sinks over its writers. One type serves both, since only failures are known.
 
 ghost use Rattle.std.specs.Prelude.{◌≡◌};
 ghost use Rattle.outside.specs.Standard.{seen_standard};
@@ -8,9 +8,10 @@ use crate::source::{Got, Source};
 use std::io::{Read, Write};
 use std::marker::Model;
 
-/// A reader or a writer of std. It doesn't tell its bytes. Each read that the reader refuses is a
-/// fault, and so is each write that the writer refuses, or of which it takes no byte. Contracts see
-/// the count of faults, which stays once it is 2^64 - 1.
+/// A reader or a writer of std.
+///
+/// A failed read is a failure, and so is a write that fails or takes no byte. Contracts see the
+/// number of failures, which stays at 2^64 - 1 once it reaches it, but not the bytes.
 #[derive(Drop)]
 pub struct Standard<T> {
     inner: T,
@@ -32,7 +33,7 @@ impl<T> Model for Standard<T> {
 }
 
 impl<T> Standard<T> {
-    /// Over this reader or writer, without faults.
+    /// Wraps `inner`, a reader or a writer, with no failures so far.
     pub fn new(inner: T) -> Self
         ensures { result ≡ 0 }
     {

@@ -13,7 +13,7 @@ use Rattle.port_monitor.specs.declared.port.Phase.TheVariants.{Dead, Checking, H
 use Rattle.port_monitor.specs.declared.port.Port.{Port}
 use Rattle.port_monitor.specs.Ports.{sampled, kept_up, replied_to, speaks, peer_of, peer_by, entered}
 use Rattle.port_monitor.specs.Histories.{History, Sampled, Replied, port_after, answers, answered_by}
-use Rattle.an_base.proofs.TestLemmas.{by_choice}
+use Rattle.common_values.proofs.TestLemmas.{by_choice}
 
 -- the end that may become the peer answered so many probes in a row, the last one among them
 abbrev IsRow : Option EndId → ℕ → List (Option EndId) → Type 0

@@ -1,9 +1,11 @@
-//! The twelve ports of a switch: each clock samples them, and asks the switches at their other ends who
-//! they are. A port that fails often is held back, and so is a switch that does not answer.
+//! autonet, switch: state machine of the twelve ports.
 //!
-//! It stands on an_base, skeptic and connectivity. Its contract: the state of each port, its peer and
-//! its probes are a function of the list of its samples and of the replies that came; and a port is
-//! good only after as many probes in a row as the skeptic asks for were answered by one end, its peer.
+//! Each clock event samples the ports, and probes the switches at their far ends. A port that fails often is held
+//! down, and so is a switch that does not answer.
+//!
+//! It depends on `skeptic` and `connectivity`. Its contract: the state of each port, its peer and its probes are a
+//! function of its samples and of the replies that came; and a port becomes good only after one end, its peer, has
+//! answered as many probes in a row as the skeptic requires.
 #![tactic(auto)]
 
 pub mod law;

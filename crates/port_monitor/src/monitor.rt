@@ -1,4 +1,4 @@
-//! The ports of one switch by their numbers, the links at the good ones, and the replies to probes.
+//! The ports of one switch by number, the links at the good ones, and the replies to probes.
 
 ghost use Rattle.std.specs.Prelude.{◌≡◌, ◌-◌, ◌<◌, ◌≤◌, ◌^◌, ℕ, [], ◌∷◌, ◌++◌, Some, slice_get, length, All};
 ghost use Rattle.an_base.specs.declared.limits.TheConstants.{LAST_PORT};
@@ -11,7 +11,7 @@ use an_base::life::{End, Life};
 use an_base::links::{Links, PortLink};
 use an_base::port::{PortState, Sample};
 
-/// The twelve ports of a switch. A port is one of 1 to 12.
+/// The twelve ports of a switch, numbered 1 to 12.
 #[derive(Drop)]
 pub struct Monitor {
     life: Life,
@@ -28,7 +28,7 @@ fn unsampled(life: Life, port: u8) -> Port
 }
 
 impl Monitor {
-    /// The ports of a switch in this life, at the start: all are dead.
+    /// Creates the ports of a switch in this life; all are dead.
     pub fn new(life: Life) -> Self
         ensures life { result.life ≡ life }
         ensures after { IsAfter result (λ port. []) }
@@ -52,8 +52,10 @@ impl Monitor {
         }
     }
 
-    /// One clock at a port, with its sample, and the number of the probe that goes out. Fewer than
-    /// 2^63 went out before.
+    /// Processes a clock event with `sample` at `port`, 1 to 12, and returns the number of the probe that
+    /// goes out, if one does.
+    ///
+    /// Fewer than 2^63 probes must have gone out there before.
     pub fn sample(&mut self, port: u8, sample: Sample) -> Option<u64>
         requires least { 1 ≤ port }
         requires most { port ≤ LAST_PORT }
@@ -65,8 +67,9 @@ impl Monitor {
         self.ports[usize::from(port - 1)].sample(sample)
     }
 
-    /// A probe came to a port from this end: the reply, none exactly if the port is dead, checking or
-    /// a host's. Nothing changes.
+    /// Returns the reply to probe `nonce` by end `from` at `port`, 1 to 12.
+    ///
+    /// Returns `None` if and only if the port is dead, checking or a host's. Changes nothing.
     pub fn on_probe(&self, port: u8, from: End, nonce: u64) -> Option<Frame>
         requires least { 1 ≤ port }
         requires most { port ≤ LAST_PORT }
@@ -84,8 +87,9 @@ impl Monitor {
         }
     }
 
-    /// A reply to a probe of a port came from this end. It counts if it is the first to the last
-    /// probe.
+    /// Records a reply by end `from` to probe `nonce` of `port`, 1 to 12.
+    ///
+    /// It counts if it is the first reply to the last probe.
     pub fn on_reply(&mut self, port: u8, from: End, nonce: u64)
         requires least { 1 ≤ port }
         requires most { port ≤ LAST_PORT }
@@ -95,7 +99,7 @@ impl Monitor {
         self.ports[usize::from(port - 1)].on_reply(from, nonce);
     }
 
-    /// How many probes of a port went out.
+    /// Returns the number of probes sent out at `port`, 1 to 12.
     pub fn probes(&self, port: u8) -> u64
         requires least { 1 ≤ port }
         requires most { port ≤ LAST_PORT }
@@ -104,7 +108,7 @@ impl Monitor {
         self.ports[usize::from(port - 1)].far.nonce()
     }
 
-    /// The state of a port.
+    /// Returns the state of `port`, 1 to 12.
     pub fn state(&self, port: u8) -> PortState
         requires least { 1 ≤ port }
         requires most { port ≤ LAST_PORT }
@@ -113,8 +117,9 @@ impl Monitor {
         self.ports[usize::from(port - 1)].state()
     }
 
-    /// The end at the other side of a port, none exactly if the state is neither that of a loop nor
-    /// that of a good link.
+    /// Returns the far end of `port`, 1 to 12.
+    ///
+    /// Returns `None` if and only if the state is neither that of a loop nor that of a good link.
     pub fn peer(&self, port: u8) -> Option<End>
         requires least { 1 ≤ port }
         requires most { port ≤ LAST_PORT }
@@ -123,7 +128,7 @@ impl Monitor {
         self.ports[usize::from(port - 1)].peer()
     }
 
-    /// The good links, by rising port.
+    /// Returns the good links, in ascending order of port.
     pub fn good_links(&self) -> Links
         ensures { (histories : ℕ → History) → IsAfter self.now histories → result ≡ links_after self.now.life histories }
     {
@@ -131,7 +136,7 @@ impl Monitor {
     }
 }
 
-// The links at the good ports, of which the first is port 1.
+// The links at the good ports; the first of `ports` is port 1.
 fn links_of(ports: &[Port; 12]) -> Links
     ensures links { result ≡ links_from 1 ports.now }
     ensures twelve { length ports.now ≡ 12 }

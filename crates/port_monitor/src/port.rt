@@ -1,4 +1,4 @@
-//! One port at its clocks. A sample moves its phase; in the phase of a switch, each clock asks who is there.
+//! One port and its clock events. Samples move its phase; in phase `Switch`, each clock event probes the far end.
 
 ghost use Rattle.std.specs.Prelude.{◌≡◌, ◌<◌, ◌^◌};
 ghost use Rattle.port_monitor.specs.Ports.{unsampled, sampled, probe_of, replied_to, state_of, peer_of, speaks, fallen, kept_up, entered, good_peer_by};
@@ -9,23 +9,23 @@ use connectivity::conn::Conn;
 use connectivity::far::Connectivity;
 use skeptic::Skeptic;
 
-/// How far a port has come.
+/// The phase of a port.
 #[derive(Clone, Copy, PartialEq, Eq)]
 pub enum Phase {
-    /// It is down, or held back since it was.
+    /// It is down, or still held down.
     Dead,
-    /// It came up, and the next sample says what is there.
+    /// It came up; the next sample says what is there.
     Checking,
     /// A host is there.
     Host,
-    /// A switch is there, and is asked who it is.
+    /// A switch is there, and is probed.
     Switch,
 }
 
 /// One port: its phase, how often it failed, and what is known of the far end.
 #[derive(Clone, Copy)]
 pub struct Port {
-    /// How far it has come.
+    /// The phase of the port.
     pub phase: Phase,
     /// How often it failed.
     pub status: Skeptic,
@@ -34,7 +34,7 @@ pub struct Port {
 }
 
 impl Port {
-    /// The port at this own end, at the start.
+    /// Creates the port at end `me`, dead.
     pub fn new(me: End) -> Self
         ensures { result ≡ unsampled me }
     {
@@ -45,7 +45,9 @@ impl Port {
         }
     }
 
-    /// One clock with this sample, and the number of the probe that goes out.
+    /// Processes a clock event with `sample`, and returns the number of the probe that goes out, if one does.
+    ///
+    /// Fewer than 2^63 probes must have gone out before.
     pub fn sample(&mut self, sample: Sample) -> Option<u64>
         requires { self.old.far.nonce < 2 ^ 63 }
         ensures after { self.new ≡ sampled sample self.old }
@@ -63,7 +65,7 @@ impl Port {
         }
     }
 
-    /// A reply came from this end with this number.
+    /// Records a reply by end `from` to probe `nonce`.
     pub fn on_reply(&mut self, from: End, nonce: u64)
         ensures { self.new ≡ replied_to from nonce self.old }
     {
@@ -72,14 +74,14 @@ impl Port {
         }
     }
 
-    /// Whether a switch is there that is asked, and is answered, who it is.
+    /// Reports whether a switch is there, so that the port probes it and answers its probes.
     pub fn speaks(&self) -> bool
         ensures { result ≡ speaks self.now.phase }
     {
         self.phase == Phase::Switch
     }
 
-    /// The state of the port.
+    /// Returns the state of the port.
     pub fn state(&self) -> PortState
         ensures { result ≡ state_of self.now }
     {
@@ -95,7 +97,7 @@ impl Port {
         }
     }
 
-    /// The far end; none exactly if the state is neither that of a loop nor that of a good link.
+    /// Returns the far end; `None` if and only if the state is neither that of a loop nor that of a good link.
     pub fn peer(&self) -> Option<End>
         ensures { result ≡ peer_of self.now }
     {
@@ -108,7 +110,7 @@ impl Port {
         }
     }
 
-    /// The far end of a good link; none exactly if the state is another one.
+    /// Returns the far end of a good link; `None` if and only if the state is another one.
     pub fn good_peer(&self) -> Option<End>
         ensures { result ≡ good_peer_by self.now.phase self.now.far.conn }
     {
@@ -118,7 +120,7 @@ impl Port {
         }
     }
 
-    // One clock at a port that is down.
+    // Processes a clock event at a port that is down.
     fn fall(&mut self)
         ensures { self.new ≡ fallen self.old }
     {
@@ -131,7 +133,7 @@ impl Port {
         self.far.clear();
     }
 
-    // One clock at a port that is not down.
+    // Processes a clock event at a port that is up.
     fn keep_up(&mut self, is_host: bool)
         requires { self.old.far.nonce < 2 ^ 63 }
         ensures { self.new ≡ kept_up self.old.phase is_host self.old }
@@ -152,7 +154,7 @@ impl Port {
         }
     }
 
-    // What is at the other end of a port that was checked.
+    // Enters the phase for what is at the far end of a port that was checked.
     fn enter(&mut self, is_host: bool)
         requires { self.old.far.nonce < 2 ^ 63 }
         ensures { self.new ≡ entered is_host self.old }

@@ -1,7 +1,7 @@
 -- An input is gone through line by line.
 use Rattle.std.proofs.Common.{◌≡◌, ◌∙◌, sym, ap, refl, ℕ, List, [], ◌∷◌, ◌++◌, ◌-◌, append_assoc, arith, length, true, false, take, drop}
 use Rattle.std.proofs.lemmas.List.{length-drop, take_all, take-append-drop}
-use Rattle.text_lines.specs.Lines.{lines_of}
+use Rattle.common_lines.specs.Lines.{lines_of}
 use Rattle.replay.specs.Division.{IsBack, after_end, from_words, has_words, is_end_line}
 
 -- what ends bytes

@@ -4,8 +4,8 @@ use Rattle.std.specs.List.{onto_first, slice_split}
 use Rattle.std.specs.Str.Lines.{lines_of_parts, strip_carriage_return}
 use Rattle.std.proofs.lemmas.Bool.Decides.{nat_tests}
 use Rattle.std.proofs.lemmas.List.Splits.{length-slice_split}
-use Rattle.text_lines.specs.Lines.{lines_of, words_of}
-use Rattle.text_lines.proofs.LineLemmas.{is_feed}
+use Rattle.common_lines.specs.Lines.{lines_of, words_of}
+use Rattle.common_lines.proofs.LineLemmas.{is_feed}
 use Rattle.replay.specs.Division.{IsDivision, after_end, from_words, has_words, is_end_line}
 
 -- BYTES BEFORE OTHERS MAKE THE LINES LONGER

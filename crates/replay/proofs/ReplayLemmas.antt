@@ -3,18 +3,18 @@ use Rattle.std.proofs.Common.{◌≡◌, ◌∙◌, sym, ap, subst, refl, ℕ, s
 use Rattle.std.proofs.lemmas.List.{take_more}
 use Rattle.an_base.specs.declared.event.Event.{Event}
 use Rattle.net_script.specs.Scripts.{IsScript, ScriptOf}
-use Rattle.text_lines.specs.declared.stop.Refusal.TheVariants as stopped
+use Rattle.common_lines.specs.declared.stop.Refusal.TheVariants as stopped
 use Rattle.journal_cause.specs.declared.cause.JournalCause.{JournalCause}
 use Rattle.journal.specs.Reading.{BeginsJournal}
 use Rattle.journal.specs.Steps.{JournalRefusal, IsRefusal as IsUnread}
 use Rattle.journal.specs.Texts.{IsJournal}
-use Rattle.fabric_state.specs.Fabric.{FabricOf}
-use Rattle.fabric_state.specs.declared.ending.Ending.{Ending}
-use Rattle.fabric_state.specs.Lawful.{is_lawful}
-use Rattle.fabric_world.specs.World.{WorldOf, after_all, begun, step, world_after}
-use Rattle.fabric_world.specs.Histories.{AreLawful, IsLawful, IsLegal}
-use Rattle.fabric_world.proofs.CountLemmas.{lawful_events}
-use Rattle.fabric_world.proofs.InductionLemmas.{world_script}
+use Rattle.net_state.specs.Fabric.{FabricOf}
+use Rattle.net_state.specs.declared.ending.Ending.{Ending}
+use Rattle.net_state.specs.Lawful.{is_lawful}
+use Rattle.net_world.specs.World.{WorldOf, after_all, begun, step, world_after}
+use Rattle.net_world.specs.Histories.{AreLawful, IsLawful, IsLegal}
+use Rattle.net_world.proofs.CountLemmas.{lawful_events}
+use Rattle.net_world.proofs.InductionLemmas.{world_script}
 use Rattle.fabric_book.specs.Nets.{NetOf, history_of, with_step}
 use Rattle.replay.specs.Replays.{HasMade, HasNoEnd, IfIllegal, IsIllegal, IsNoReplay, IsRefusal, IsUnlawfulNext, as_replayed, line_after, no_journal, not_legal, unended, unlawful}
 use Rattle.replay.specs.declared.refusal.ReplayRefusal.{ReplayRefusal}

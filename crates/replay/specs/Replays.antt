@@ -7,24 +7,24 @@ use Rattle.journal_cause.specs.declared.cause.JournalCause.{JournalCause}
 use Rattle.journal_cause.specs.declared.cause.JournalCause.TheVariants as cause
 use Rattle.journal.specs.Steps.{JournalRefusal}
 use Rattle.journal.specs.Texts.{IsFault, IsJournal}
-use Rattle.text_lines.specs.declared.stop.Refusal.TheVariants as stopped
-use Rattle.fabric_state.specs.Lawful.{is_lawful}
-use Rattle.fabric_world.specs.Histories.{HistoryOf, IsFirstFault, IsLawful, end_of, fabric_of}
+use Rattle.common_lines.specs.declared.stop.Refusal.TheVariants as stopped
+use Rattle.net_state.specs.Lawful.{is_lawful}
+use Rattle.net_world.specs.Histories.{HistoryOf, IsFirstFault, IsLawful, end_of, fabric_of}
 use Rattle.fabric_book.specs.Nets.{NetOf}
 use Rattle.replay.specs.declared.refusal.ReplayRefusal.{ReplayRefusal}
 use Rattle.replay.specs.declared.refusal.ReplayRefusal.TheVariants as refusal
 
--- a network of a script has made these events, each of which was lawful, and memory was not wanting
+-- a network of `script` has made `events`, each of which was lawful, and no allocation failed
 pub record HasMade (script : ScriptOf) (events : List Event) (net : NetOf) : Type 0 where
   pub net_is : net ≡ record { script = script; events = events; lost = false }
   pub lawful : IsLawful script events
 
--- The line of the event after so many, in the text of a journal, whose first line is `journal 1`; or of the
--- `end` after them all.
+-- The line of the event after `events` in the text of a journal, whose first line is `journal 1`; or of the `end`
+-- after all events.
 abbrev pub line_after : List Event → ℕ
 line_after events = length events + 2
 
--- of the line and the cause of a refusal, unless memory was wanting
+-- `Holds` holds of the line and the reason of a rejection, unless an allocation failed
 abbrev pub IfIllegal : ReplayRefusal → (ℕ → JournalCause → Type 0) → Type 0
 IfIllegal (refusal.Illegal line why) Holds = Holds line why
 IfIllegal refusal.OutOfMemory Holds = ⊤
@@ -35,14 +35,14 @@ pub record IsUnlawfulNext (history : HistoryOf) (event : Event) (line : ℕ) (wh
   pub stands : line ≡ line_after history.events
   pub cause_is : why ≡ cause.NotLawful
 
--- a history has come to no end
+-- `history` has come to no end
 pub record HasNoEnd (history : HistoryOf) (line : ℕ) (why : JournalCause) : Type 0 where
   pub none : end_of history.script history.events ≡ None
   pub stands : line ≡ line_after history.events
   pub cause_is : why ≡ cause.Unfinished
 
--- Why a journal is refused: an event is not lawful, the first of these, and stands in this line; or all are
--- lawful, they come to no end, and this is the last line.
+-- Why a journal is rejected: an event is not lawful, it is the first such event, and `line` is its line; or all are
+-- lawful, they come to no end, and `line` is the last one.
 pub data IsIllegal (script : ScriptOf) (journal : List Event) (line : ℕ) (why : JournalCause) : Type 0 where
   unlawful : (before after : List Event) (event : Event) → IsFirstFault script journal before event after
       → line ≡ line_after before → why ≡ cause.NotLawful → IsIllegal script journal line why
@@ -58,7 +58,7 @@ pub data IsNoReplay (script : ScriptOf) (bytes : List ℕ) (line : ℕ) (why : J
   not_legal : (journal : List Event) → IsJournal script bytes journal → IsIllegal script journal line why
       → IsNoReplay script bytes line why
 
--- a text that is no journal is refused for its fault
+-- a text that is not a journal is rejected for its error
 abbrev pub as_replayed : JournalRefusal → ReplayRefusal
 as_replayed (stopped.Fault line why) = refusal.Illegal line why
 as_replayed stopped.OutOfMemory = refusal.OutOfMemory

@@ -1,17 +1,17 @@
 //! An input with a script and a journal.
 //!
-//! Its lines up to `end` are looked at twice, here and by the reader of scripts: where an input is parted does not
+//! The lines up to `end` are read twice, here and by the reader of scripts: where an input is divided does not
 //! depend on what its script says.
 
 ghost use Rattle.std.specs.Prelude.{◌≡◌, ◌<◌, ◌∷◌, [], ℕ, List, length, map, take, IfNone, IfOk, IfSome};
-ghost use Rattle.text_lines.specs.Lines.{is_blank, lines_of, without_comment, words_of};
+ghost use Rattle.common_lines.specs.Lines.{is_blank, lines_of, without_comment, words_of};
 ghost use Rattle.replay.specs.Division.{IsBack, IsDivision, after_end, from_words, has_words, is_end_line};
 
-use an_base::memory::OutOfMemory;
+use common_lines::line::{first_line, first_of};
+use common_values::memory::OutOfMemory;
 use std::alloc::Global;
-use text_lines::line::{first_line, first_of};
 
-// What stands before the first `#`.
+// Returns what is before the first `#`.
 fn before_comment(line: &[u8]) -> &[u8]
     ensures { result.now ≡ without_comment line.now }
 {
@@ -27,7 +27,7 @@ fn is_blank(c: u8) -> bool
     c == b' ' || c == b'\t'
 }
 
-// The first two words of a line, or as many as it has: no more are kept, however long the line is.
+// Returns the first two words of a line, or all if it has fewer. No more are kept, however long the line is.
 fn first_words(alloc: Global, line: &[u8]) -> Result<Vec<&[u8]>, OutOfMemory>
     ensures { IfOk result (λ v. map (λ w. w.now) v.items ≡ take 2 (words_of line.now)) }
 {
@@ -40,7 +40,7 @@ fn first_words(alloc: Global, line: &[u8]) -> Result<Vec<&[u8]>, OutOfMemory>
     )
 }
 
-// Whether a line has words.
+// Reports whether a line has words.
 fn has_words(alloc: Global, line: &[u8]) -> Result<bool, OutOfMemory>
     ensures { IfOk result (λ answer. answer ≡ has_words line.now) }
 {
@@ -48,7 +48,7 @@ fn has_words(alloc: Global, line: &[u8]) -> Result<bool, OutOfMemory>
     Ok(!words.is_empty())
 }
 
-// Whether the one word of a line is `end`.
+// Reports whether the only word of a line is `end`.
 fn is_end_line(alloc: Global, line: &[u8]) -> Result<bool, OutOfMemory>
     ensures { IfOk result (λ answer. answer ≡ is_end_line line.now) }
 {
@@ -56,7 +56,7 @@ fn is_end_line(alloc: Global, line: &[u8]) -> Result<bool, OutOfMemory>
     Ok(words.len() == 1 && words[0] == b"end".as_slice())
 }
 
-// What stands after the first line feed, or nothing if there is none.
+// Returns what is after the first line feed, or nothing if there is none.
 fn after_first(bytes: &[u8]) -> &[u8]
     ensures lines { 0 < length bytes.now
         → (line : List ℕ) × (lines_of bytes.now ≡ line ∷ lines_of result.now) }
@@ -69,7 +69,7 @@ fn after_first(bytes: &[u8]) -> &[u8]
     }
 }
 
-// The first line, without what ends it, and what stands after it. There is none if there are no bytes.
+// Returns the first line, without its end, and what is after it, or `None` if there are no bytes.
 fn next_line(bytes: &[u8]) -> Option<(&[u8], &[u8])>
     ensures some { IfSome result (λ r. lines_of bytes.now ≡ r.0.now ∷ lines_of r.1.now) }
     ensures back { IfSome result (λ r. IsBack bytes.now r.1.now) }
@@ -82,7 +82,7 @@ fn next_line(bytes: &[u8]) -> Option<(&[u8], &[u8])>
     }
 }
 
-// The bytes from the first line with words on.
+// Returns the bytes, starting at the first line that has words.
 fn from_words(alloc: Global, bytes: &[u8]) -> Result<&[u8], OutOfMemory>
     ensures lines { IfOk result (λ rest. lines_of rest.now ≡ from_words (lines_of bytes.now)) }
     ensures back { IfOk result (λ rest. IsBack bytes.now rest.now) }
@@ -97,7 +97,7 @@ fn from_words(alloc: Global, bytes: &[u8]) -> Result<&[u8], OutOfMemory>
     Ok(rest)
 }
 
-// What stands after the first line that is `end` and the lines without words that follow it.
+// Returns what is after the first line `end` and the lines without words that follow it.
 fn after_end(alloc: Global, bytes: &[u8]) -> Result<&[u8], OutOfMemory>
     ensures lines { IfOk result (λ rest. lines_of rest.now ≡ after_end (lines_of bytes.now)) }
     ensures back { IfOk result (λ rest. IsBack bytes.now rest.now) }
@@ -112,8 +112,10 @@ fn after_end(alloc: Global, bytes: &[u8]) -> Result<&[u8], OutOfMemory>
     Ok(rest)
 }
 
-/// The part of an input that is to be a script, and after it that of a journal. If no line is `end`, all
-/// is the script.
+/// Divides `bytes` into a script and, after it, a journal. If no line is `end`, all of it is the script.
+///
+/// # Errors
+/// `OutOfMemory`, which says nothing about `bytes`.
 pub fn divide(alloc: Global, bytes: &[u8]) -> Result<(&[u8], &[u8]), OutOfMemory>
     ensures { IfOk result (λ parts. IsDivision bytes.now parts.0.now parts.1.now) }
 {

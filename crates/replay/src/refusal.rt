@@ -4,22 +4,22 @@ ghost use Rattle.std.specs.Prelude.{◌≡◌};
 ghost use Rattle.replay.specs.Replays.{as_replayed};
 ghost use Rattle.replay.specs.declared.refusal.ReplayRefusal.TheVariants as refusal;
 
-use an_base::memory::OutOfMemory;
+use common_values::memory::OutOfMemory;
 use journal::reader::JournalRefusal;
 use journal_cause::cause::JournalCause;
 
 /// Why a journal was not replayed.
 #[derive(Clone, Copy, Debug, PartialEq, Eq)]
 pub enum ReplayRefusal {
-    /// It is no lawful journal with an end.
+    /// It is not a lawful journal with an end.
     Illegal {
-        /// The line of its text: that of the first event that is not lawful, or the last. If the text is no
+        /// The line of its text: of the first event that is not lawful, or the last line. If the text is not a
         /// journal, its first faulty line.
         line: u32,
-        /// What is wrong: `NotLawful` or `Unfinished`. If the text is no journal, its fault.
+        /// What is wrong: `NotLawful` or `Unfinished`. If the text is not a journal, its error.
         cause: JournalCause,
     },
-    /// No memory was found.
+    /// An allocation failed.
     OutOfMemory,
 }
 

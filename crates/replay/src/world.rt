@@ -4,9 +4,9 @@ ghost use Rattle.std.specs.Prelude.{◌≡◌, ◌∷◌, ◌++◌, [], List, �
 ghost use Rattle.an_base.specs.declared.event.Event.{Event};
 ghost use Rattle.net_script.specs.Scripts.{IsScript, ScriptOf};
 ghost use Rattle.journal.specs.Reading.{HasRead};
-ghost use Rattle.fabric_world.specs.Histories.{IsLawful, IsLegal, world_of};
-ghost use Rattle.fabric_world.specs.Lines.{lines_of};
-ghost use Rattle.fabric_settling.specs.Claims.{HoldsAndSettles};
+ghost use Rattle.net_world.specs.Histories.{IsLawful, IsLegal, world_of};
+ghost use Rattle.net_world.specs.Lines.{lines_of};
+ghost use Rattle.net_settling.specs.Claims.{HoldsAndSettles};
 ghost use Rattle.fabric_book.specs.Nets.{history_of, with_step};
 ghost use Rattle.replay.specs.Replays.{HasMade, HasNoEnd, IfIllegal, IsNoReplay, IsRefusal, IsUnlawfulNext, line_after};
 
@@ -14,10 +14,10 @@ use crate::refusal::ReplayRefusal;
 use an_base::event::{Event, Journal};
 use fabric_book::lines::Lines;
 use fabric_book::net::{Net, StepRefusal};
-use fabric_state::ending::Ending;
 use journal::reader::Reader;
 use journal_cause::cause::JournalCause;
 use net_script::script::Script;
+use net_state::ending::Ending;
 use std::alloc::Global;
 use std::marker::Model;
 
@@ -28,7 +28,7 @@ pub struct World {
 }
 
 impl Model for World {
-    ghost use Rattle.fabric_state.specs.declared.ending.Ending.{Ending};
+    ghost use Rattle.net_state.specs.declared.ending.Ending.{Ending};
 
     ghost Value = { Ending };
 
@@ -36,7 +36,7 @@ impl Model for World {
 }
 
 impl World {
-    /// The end.
+    /// Returns the end.
     pub fn end(&self) -> Ending
         ensures { result ≡ self.now }
     {
@@ -44,7 +44,7 @@ impl World {
     }
 }
 
-// The line of the next event in the text of a journal, or of the `end` after them all.
+// Returns the line of the next event in the text of a journal, or of the `end` after all events.
 fn next_line(net: &Net) -> u32
     requires { IsLawful net.now.script net.now.events }
     ensures line { result ≡ line_after net.now.events }
@@ -53,9 +53,12 @@ fn next_line(net: &Net) -> u32
     net.fabric().events() + 2
 }
 
-/// Makes the next event of a journal, and tells its lines in place of those that were there. An event that is
-/// not lawful is refused with its line in the text of the journal. After an error the network is only good to
-/// be dropped.
+/// Makes the next event of a journal, and replaces `lines` by the lines that report it. The network must not be
+/// marked as lost, and its history must be lawful.
+///
+/// # Errors
+/// `Illegal` with `NotLawful`, if the event is not lawful, and its line in the text of the journal; or
+/// `OutOfMemory`. The network can then only be dropped.
 pub fn step(net: &mut Net, event: &Event, lines: &mut Lines) -> Result<(), ReplayRefusal>
     requires here { net.old.lost ≡ false }
     requires lawful { IsLawful net.old.script net.old.events }
@@ -77,8 +80,11 @@ pub fn step(net: &mut Net, event: &Event, lines: &mut Lines) -> Result<(), Repla
     }
 }
 
-/// The end to which a journal has come, or that it has come to none, with the last line of its text. All that
-/// is claimed of a lawful history holds of it.
+/// Returns the end to which a journal has come. All that is claimed of a lawful history holds of the journal, which
+/// must be lawful.
+///
+/// # Errors
+/// `Illegal` with `Unfinished` and the last line of the text, if the journal has come to no end.
 pub fn end_of(net: &Net) -> Result<Ending, ReplayRefusal>
     requires lawful { IsLawful net.now.script net.now.events }
     ensures legal { IfOk result (IsLegal net.now.script net.now.events) }
@@ -95,9 +101,9 @@ pub fn end_of(net: &Net) -> Result<Ending, ReplayRefusal>
     }
 }
 
-/// Why the journal of a text is refused, if an event of it was refused and the reader stands after that
-/// event: for the first fault that the text has after it, and else for the event. The rest of the text is
-/// read and nothing of it is kept.
+/// Returns why the journal of a text is rejected after `why`, by which an event was rejected, if `reader` has read
+/// up to that event: for the first error after the event, if there is one, otherwise for the event. The rest of the
+/// text is read, but not kept.
 pub fn refused(reader: &mut Reader, why: ReplayRefusal) -> ReplayRefusal
     ensures { (script : ScriptOf) (bytes : List ℕ) (before : List Event) (event : Event)
         → HasRead script bytes (before ++ event ∷ []) reader.old → IsLawful script before
@@ -113,7 +119,7 @@ pub fn refused(reader: &mut Reader, why: ReplayRefusal) -> ReplayRefusal
     }
 }
 
-// Makes the events of a journal over a network that has made none yet, and tells to what they come.
+// Makes the events of a journal over a network that has made none yet, and returns what they come to.
 fn make_all(net: &mut Net, lines: &mut Lines, journal: &Journal) -> Result<World, ReplayRefusal>
     requires { HasMade net.old.script [] net.old }
     ensures legal { IfOk result (IsLegal net.old.script journal.now) }
@@ -127,9 +133,13 @@ fn make_all(net: &mut Net, lines: &mut Lines, journal: &Journal) -> Result<World
     Ok(World { end: end_of(net)? })
 }
 
-/// Replays a journal over the network of a script. It answers if each event is lawful after those before
-/// it and the last one leads to an end. All that is claimed of a lawful history then holds of the journal: at
-/// each moment of it, at its end if it ends settled, and of how soon it settles.
+/// Replays a journal over the network of `script`, and returns what it comes to. Each event must be lawful after
+/// those before it, and the last one must lead to an end. All that is claimed of a lawful history then holds of the
+/// journal: at each point in time, at its end if it ends settled, and how soon it settles.
+///
+/// # Errors
+/// `Illegal` with the line of the first event that is not lawful, or with the last line if the journal comes to no
+/// end; or `OutOfMemory`, which says nothing about the journal.
 pub fn replay(alloc: Global, script: &Script, journal: &Journal) -> Result<World, ReplayRefusal>
     ensures legal { IfOk result (IsLegal script.now journal.now) }
     ensures claims { OnOk result (HoldsAndSettles script.now journal.now) }

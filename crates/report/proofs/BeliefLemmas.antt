@@ -18,25 +18,25 @@ use Rattle.host_traffic.specs.declared.hop.Hop.TheVariants as hop
 use Rattle.host_traffic.specs.Packets.{PacketOf, packet_of}
 use Rattle.host_names.specs.declared.choice.Choice.{Choice}
 use Rattle.host_names.specs.declared.choice.Choice.TheVariants.{Known, Broadcast}
-use Rattle.fabric_state.specs.declared.ending.Ending.{Ending}
-use Rattle.fabric_state.specs.Effects.{hop_of}
-use Rattle.fabric_state.specs.Fabric.{FabricOf, table_at}
-use Rattle.fabric_state.specs.Fits.{IsPacketSound}
-use Rattle.fabric_state.specs.Lawful.{is_lawful}
-use Rattle.fabric_state.proofs.FitsLemmas.{event_fits}
-use Rattle.fabric_state.proofs.LawfulLemmas.{lawful_is}
-use Rattle.fabric_world.specs.Histories.{AreLawful, IsLawful}
-use Rattle.fabric_state.specs.Lines.{epoch_in_use, hop_line, move_lines}
-use Rattle.fabric_world.specs.Lines.{lines_of}
-use Rattle.fabric_world.specs.World.{WorldOf, after_all, begun, effect, loads_with, step, world_after}
-use Rattle.fabric_world.proofs.FabricLemmas.{world_fits}
-use Rattle.fabric_world.proofs.InductionLemmas.{world_first, world_script}
-use Rattle.fabric_world.proofs.WorldLemmas.{step-lawful, world_after-event}
+use Rattle.net_state.specs.declared.ending.Ending.{Ending}
+use Rattle.net_state.specs.Effects.{hop_of}
+use Rattle.net_state.specs.Fabric.{FabricOf, table_at}
+use Rattle.net_state.specs.Fits.{IsPacketSound}
+use Rattle.net_state.specs.Lawful.{is_lawful}
+use Rattle.net_state.proofs.FitsLemmas.{event_fits}
+use Rattle.net_state.proofs.LawfulLemmas.{lawful_is}
+use Rattle.net_world.specs.Histories.{AreLawful, IsLawful}
+use Rattle.net_state.specs.Lines.{epoch_in_use, hop_line, move_lines}
+use Rattle.net_world.specs.Lines.{lines_of}
+use Rattle.net_world.specs.World.{WorldOf, after_all, begun, effect, loads_with, step, world_after}
+use Rattle.net_world.proofs.FabricLemmas.{world_fits}
+use Rattle.net_world.proofs.InductionLemmas.{world_first, world_script}
+use Rattle.net_world.proofs.WorldLemmas.{step-lawful, world_after-event}
 use Rattle.report.specs.Beliefs.{Belief, arrivals_at, arrivals_by, arrivals_of, belief_at, belief_by, belief_line, belief_of, belief_text, beliefs_of, counts_words, delivered_by, delivery_of, fabric_after, first_move, is_broadcast, is_known, is_move_of, is_moving, names_text, sender_by, senders}
 use Rattle.report.specs.Moments.{Moment, moments, moments_after, told_so_far, told_whole}
 use Rattle.report.specs.Remembering.{delivery_in}
 use Rattle.report.proofs.MomentLemmas.{moments_more, moments_on}
-use Rattle.text_lines.specs.Lines.{line_text}
+use Rattle.common_lines.specs.Lines.{line_text}
 
 -- WHAT A LAWFUL EVENT LEAVES OF THE FABRIC
 

@@ -9,19 +9,19 @@ use Rattle.an_base.specs.declared.event.Event.{Event}
 use Rattle.an_base.specs.declared.event.Event.TheVariants.{Tick, Clock, Take, Handle, Load, Restart}
 use Rattle.net_graph.specs.Wires.{network}
 use Rattle.net_script.specs.Scripts.{IsScript, ScriptOf}
-use Rattle.fabric_state.specs.Fabric.{FabricOf, StationOf, no_life, station, vacant, held_bytes, life_of}
-use Rattle.fabric_state.specs.Lawful.{is_lawful}
-use Rattle.fabric_state.proofs.LawfulLemmas.{command_fits, command_is, lawful_is}
-use Rattle.fabric_state.proofs.ReadyLemmas.{handle_ready, load_ready, restart_ready}
-use Rattle.fabric_state.proofs.StepLemmas.{events_most}
-use Rattle.fabric_world.specs.World.{WorldOf, effect, first_station, loads_with, world_after}
-use Rattle.fabric_world.proofs.BootLemmas.{boot_most}
-use Rattle.fabric_world.proofs.CountLemmas.{world_counts}
-use Rattle.fabric_world.proofs.FabricLemmas.{world_fits}
-use Rattle.fabric_world.proofs.InductionLemmas.{world_first, world_script}
-use Rattle.fabric_world.proofs.PlaceLemmas.{switch_below, world_places, world_size}
-use Rattle.fabric_world.proofs.StaysLemmas.{handles_stay}
-use Rattle.fabric_world.proofs.WorldLemmas.{step-lawful, world_after-event}
+use Rattle.net_state.specs.Fabric.{FabricOf, StationOf, no_life, station, vacant, held_bytes, life_of}
+use Rattle.net_state.specs.Lawful.{is_lawful}
+use Rattle.net_state.proofs.LawfulLemmas.{command_fits, command_is, lawful_is}
+use Rattle.net_state.proofs.ReadyLemmas.{handle_ready, load_ready, restart_ready}
+use Rattle.net_state.proofs.StepLemmas.{events_most}
+use Rattle.net_world.specs.World.{WorldOf, effect, first_station, loads_with, world_after}
+use Rattle.net_world.proofs.BootLemmas.{boot_most}
+use Rattle.net_world.proofs.CountLemmas.{world_counts}
+use Rattle.net_world.proofs.FabricLemmas.{world_fits}
+use Rattle.net_world.proofs.InductionLemmas.{world_first, world_script}
+use Rattle.net_world.proofs.PlaceLemmas.{switch_below, world_places, world_size}
+use Rattle.net_world.proofs.StaysLemmas.{handles_stay}
+use Rattle.net_world.proofs.WorldLemmas.{step-lawful, world_after-event}
 use Rattle.report.specs.Events.{CourseOf, course_after, course_of}
 use Rattle.report.specs.Retellings.{Comes}
 

@@ -5,11 +5,11 @@ use Rattle.std.specs.Option.{option_map_or}
 use Rattle.std.proofs.lemmas.List.{flat_map_more, take_more}
 use Rattle.an_base.specs.declared.event.Event.{Event}
 use Rattle.net_script.specs.Scripts.{ScriptOf}
-use Rattle.fabric_state.specs.declared.ending.Ending.{Ending}
-use Rattle.fabric_state.specs.declared.line.Line.{Line}
-use Rattle.fabric_world.specs.Histories.{IsLawful, world_of}
-use Rattle.fabric_world.specs.Lines.{lines_of}
-use Rattle.fabric_world.specs.World.{world_after}
+use Rattle.net_state.specs.declared.ending.Ending.{Ending}
+use Rattle.net_state.specs.declared.line.Line.{Line}
+use Rattle.net_world.specs.Histories.{IsLawful, world_of}
+use Rattle.net_world.specs.Lines.{lines_of}
+use Rattle.net_world.specs.World.{world_after}
 use Rattle.fabric_book.specs.Nets.{NetOf, history_of, with_step}
 use Rattle.replay.specs.Replays.{HasMade}
 use Rattle.replay.proofs.ReplayLemmas.{made_more}

@@ -15,15 +15,15 @@ use Rattle.net_graph.specs.declared.wiring.HostOn.{HostOn}
 use Rattle.net_script.specs.Scripts.{IsScript, ScriptOf}
 use Rattle.host_names.specs.Caches.{ArrivalOf, choice_of, kept_of, with_arrival}
 use Rattle.host_names.proofs.KeptLaws.{one_more}
-use Rattle.fabric_state.specs.Fabric.{FabricOf}
-use Rattle.fabric_state.specs.Effects.{address_of}
+use Rattle.net_state.specs.Fabric.{FabricOf}
+use Rattle.net_state.specs.Effects.{address_of}
 use Rattle.fabric_book.specs.Nets.{NetOf, history_of}
 use Rattle.replay.proofs.ReplayLemmas.{kept_there}
-use Rattle.fabric_world.specs.Histories.{IsLawful, fabric_of}
-use Rattle.fabric_world.specs.Lines.{lines_of}
-use Rattle.fabric_world.specs.World.{world_after}
-use Rattle.fabric_state.specs.declared.line.Line.{Line}
-use Rattle.fabric_world.proofs.CountLemmas.{lawful_events}
+use Rattle.net_world.specs.Histories.{IsLawful, fabric_of}
+use Rattle.net_world.specs.Lines.{lines_of}
+use Rattle.net_world.specs.World.{world_after}
+use Rattle.net_state.specs.declared.line.Line.{Line}
+use Rattle.net_world.proofs.CountLemmas.{lawful_events}
 use Rattle.report.specs.declared.naming.Traced.{Traced}
 use Rattle.report.specs.Beliefs.{Belief, address_at, address_in, arrival_of, arrivals_by, arrivals_of, belief_by, belief_line, belief_of, belief_text, beliefs_of, counts_by, counts_words, delivery_of, fabric_after, first_move, host_in, is_broadcast, is_host, is_known, is_move_of, sender_by, sender_of, senders, source_of}
 use Rattle.report.specs.Moments.{IsHeard, Moment}

@@ -7,14 +7,14 @@ use Rattle.an_base.specs.Rows.{RowOf}
 use Rattle.net_script.specs.Scripts.{ScriptOf}
 use Rattle.outside.specs.Told.{Gains, GainsFront, Seen, with_back}
 use Rattle.outside.proofs.ToldLemmas.{with_back_none}
-use Rattle.fabric_state.specs.declared.ending.Ending.{Ending}
-use Rattle.fabric_state.specs.Fabric.{FabricOf}
-use Rattle.fabric_world.specs.Lines.{rows_after}
-use Rattle.fabric_world.specs.Histories.{IsLegal, fabric_of}
-use Rattle.fabric_world.specs.World.{WorldOf, after_all, begun, step, world_after}
-use Rattle.fabric_state.specs.declared.line.Line.{Line}
-use Rattle.fabric_world.proofs.WorldLemmas.{world_after-event}
-use Rattle.fabric_world.proofs.InductionLemmas.{world_first}
+use Rattle.net_state.specs.declared.ending.Ending.{Ending}
+use Rattle.net_state.specs.Fabric.{FabricOf}
+use Rattle.net_world.specs.Lines.{rows_after}
+use Rattle.net_world.specs.Histories.{IsLegal, fabric_of}
+use Rattle.net_world.specs.World.{WorldOf, after_all, begun, step, world_after}
+use Rattle.net_state.specs.declared.line.Line.{Line}
+use Rattle.net_world.proofs.WorldLemmas.{world_after-event}
+use Rattle.net_world.proofs.InductionLemmas.{world_first}
 use Rattle.fabric_book.specs.Nets.{NetOf, history_of}
 use Rattle.report.specs.Events.{CourseOf, IsReport, all_told, course_after, course_of, event_text, events_text, last_line, line_of_end, report_text}
 use Rattle.report.specs.Moments.{IsHeard, IsTold, Moment, moments_after, told_so_far, told_whole}

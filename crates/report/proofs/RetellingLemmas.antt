@@ -7,20 +7,20 @@ use Rattle.an_base.specs.Rows.{RowOf}
 use Rattle.an_base.specs.declared.event.Event.{Event}
 use Rattle.an_base.specs.declared.event.Event.TheVariants.{Clock, Take, Handle, Load, Restart}
 use Rattle.net_script.specs.Scripts.{IsScript, ScriptOf}
-use Rattle.fabric_state.specs.declared.ending.Ending.{Ending}
-use Rattle.fabric_state.specs.Lawful.{is_lawful}
-use Rattle.fabric_state.proofs.LawfulLemmas.{lawful_is}
-use Rattle.fabric_state.proofs.ReadyLemmas.{clock_ready, handle_ready, load_ready, take_ready}
-use Rattle.fabric_state.specs.declared.line.Line.{Line}
-use Rattle.fabric_state.specs.declared.line.PlacedLine.{PlacedLine}
-use Rattle.fabric_world.specs.Accounts.{AccountOf, account_of, gathered, loaded_rows, placed, placed_lines}
-use Rattle.fabric_world.specs.Histories.{AreLawful, IsLegal, owner_of}
-use Rattle.fabric_world.specs.Lines.{lines_of, rows_after}
-use Rattle.fabric_world.specs.World.{WorldOf, step, world_after}
-use Rattle.fabric_world.proofs.CountLemmas.{world_counts}
-use Rattle.fabric_world.proofs.InductionLemmas.{world_first}
-use Rattle.fabric_world.proofs.PlaceLemmas.{switch_below}
-use Rattle.fabric_world.proofs.WorldLemmas.{world_after-event}
+use Rattle.net_state.specs.declared.ending.Ending.{Ending}
+use Rattle.net_state.specs.Lawful.{is_lawful}
+use Rattle.net_state.proofs.LawfulLemmas.{lawful_is}
+use Rattle.net_state.proofs.ReadyLemmas.{clock_ready, handle_ready, load_ready, take_ready}
+use Rattle.net_state.specs.declared.line.Line.{Line}
+use Rattle.net_state.specs.declared.line.PlacedLine.{PlacedLine}
+use Rattle.net_world.specs.Accounts.{AccountOf, account_of, gathered, loaded_rows, placed, placed_lines}
+use Rattle.net_world.specs.Histories.{AreLawful, IsLegal, owner_of}
+use Rattle.net_world.specs.Lines.{lines_of, rows_after}
+use Rattle.net_world.specs.World.{WorldOf, step, world_after}
+use Rattle.net_world.proofs.CountLemmas.{world_counts}
+use Rattle.net_world.proofs.InductionLemmas.{world_first}
+use Rattle.net_world.proofs.PlaceLemmas.{switch_below}
+use Rattle.net_world.proofs.WorldLemmas.{world_after-event}
 use Rattle.fabric_book.specs.declared.account.Account.{Account}
 use Rattle.fabric_book.specs.Accounts.{AreAccounts, HasAccount}
 use Rattle.report.specs.Events.{CourseOf, all_told, course_after, course_of, event_text}

@@ -8,8 +8,8 @@ use Rattle.an_base.specs.Values.{EndId, LifeId}
 use Rattle.an_base.specs.declared.port.PortState.{PortState}
 use Rattle.an_base.specs.declared.port.PortState.TheVariants as state
 use Rattle.net_script.specs.Scripts.{ScriptOf}
-use Rattle.fabric_state.specs.declared.line.Line.{Line}
-use Rattle.fabric_state.specs.declared.line.Line.TheVariants as told
+use Rattle.net_state.specs.declared.line.Line.{Line}
+use Rattle.net_state.specs.declared.line.Line.TheVariants as told
 use Rattle.host_traffic.specs.declared.hop.DropCause.{DropCause}
 use Rattle.report.specs.Events.{packet_words, peer_words, spaced, spaced_word}
 

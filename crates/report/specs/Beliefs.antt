@@ -1,5 +1,5 @@
--- What hosts believe about where others are: a host remembers what came to it, and of each packet that it
--- sends is told where it would send it by that.
+-- What hosts believe about where others are: a host remembers what came to it; for each packet that it sends, the
+-- output says where the host would send it.
 
 use Rattle.std.specs.Prelude.{◌≡◌, ◌+◌, ◌-◌, ◌==◌, ℕ, Bool, true, false, List, [], ◌∷◌, ◌++◌, length, reverse, find, count_by, codes, Option, Some, None, if◌then◌else◌, slice_get, slice_index_or}
 use Rattle.std.specs.Fmt.{decimal}
@@ -8,7 +8,7 @@ use Rattle.std.specs.Option.{option_map, option_map_or, option_and_then}
 use Rattle.an_base.specs.declared.event.Event.{Event}
 use Rattle.an_base.specs.declared.event.Event.TheVariants.{Send, Move}
 use Rattle.net_graph.specs.declared.wiring.HostOn.{HostOn}
-use Rattle.text_lines.specs.Lines.{line_text}
+use Rattle.common_lines.specs.Lines.{line_text}
 use Rattle.net_script.specs.Scripts.{ScriptOf}
 use Rattle.journal.specs.Texts.{IsJournal}
 use Rattle.host_traffic.specs.declared.hop.Hop.{Hop}
@@ -17,22 +17,22 @@ use Rattle.host_traffic.specs.Packets.{packet_of}
 use Rattle.host_names.specs.declared.choice.Choice.{Choice}
 use Rattle.host_names.specs.declared.choice.Choice.TheVariants.{Known, Broadcast}
 use Rattle.host_names.specs.Caches.{ArrivalOf, choice_of, kept_of}
-use Rattle.fabric_state.specs.Fabric.{FabricOf, no_host, table_at}
-use Rattle.fabric_state.specs.Effects.{address_of, hop_of}
-use Rattle.fabric_world.specs.World.{world_after}
+use Rattle.net_state.specs.Fabric.{FabricOf, no_host, table_at}
+use Rattle.net_state.specs.Effects.{address_of, hop_of}
+use Rattle.net_world.specs.World.{world_after}
 use Rattle.report.specs.Events.{HasLegalEnd, host_text}
 use Rattle.report.specs.Moments.{Moment, moments}
 
--- a host of a script, by its place
+-- the host of a script at an index
 abbrev pub host_in : ScriptOf → ℕ → HostOn
 host_in script host = slice_index_or script.wires.hosts host no_host
 
--- the fabric after a history
+-- the state of the network after a history
 abbrev pub fabric_after : ScriptOf → List Event → FabricOf
 fabric_after script history = (world_after script history).fabric
 
--- The hosts that send, in turn. Packets are numbered as they are sent, from 1, so a packet is from the host
--- that stands at its number.
+-- The hosts that send, in turn. Packets are numbered as they are sent, from 1, so the sender of a packet is found
+-- by its number.
 abbrev pub sender_by : Event → List ℕ
 sender_by (Send from to) = from ∷ []
 sender_by event = []
@@ -40,11 +40,11 @@ sender_by event = []
 unfoldable pub senders : List Event → List ℕ
 senders history = flat_map sender_by history
 
--- None: no packet of this number was sent
+-- The sender of a packet; `None` if no packet of this number was sent.
 abbrev pub sender_of : ScriptOf → List Event → ℕ → Option HostOn
 sender_of script history packet = option_map (host_in script) (slice_get (senders history) (packet - 1))
 
--- the first moment at which a packet moves
+-- the first `Moment` at which a packet moves
 abbrev pub is_move_of : ℕ → Event → Bool
 is_move_of packet (Move other) = other == packet
 is_move_of packet event = false
@@ -55,19 +55,18 @@ is_moving packet moment = is_move_of packet moment.event
 unfoldable pub first_move : List Event → ℕ → Option Moment
 first_move history packet = find (is_moving packet) (moments history)
 
--- The address of a host: the number of the table in use at its switch, and its port. It is 0 if no table is
--- in use.
+-- The address of a host: the number of the table in use at its switch, and its port; 0 if no table is in use.
 abbrev pub address_in : FabricOf → HostOn → ℕ
 address_in fabric host =
     option_map_or (λ table. address_of table host.port) (table_at fabric host.s) 0
 
--- the address from which a packet comes that moves first at this moment: that of its sender
+-- the address from which a packet that first moves at this `Moment` comes: that of its sender
 abbrev pub address_at : ScriptOf → ℕ → Moment → ℕ
 address_at script packet moment =
     option_map_or (address_in (fabric_after script moment.before))
     (sender_of script moment.before packet) 0
 
--- that of its first move; 0 before it
+-- the address from which a packet comes, given its first move; 0 before it
 abbrev pub source_of : ScriptOf → List Event → ℕ → ℕ
 source_of script history packet = option_map_or (address_at script packet) (first_move history packet) 0
 
@@ -77,12 +76,12 @@ delivered_by (hop.Went exit) = None
 delivered_by (hop.Delivered exit host) = Some host
 delivered_by (hop.Dropped why) = None
 
--- the one to which a packet under way is delivered by its next hop
+-- the host to which the next hop of a packet under way delivers it, if to one
 abbrev pub delivery_of : FabricOf → ℕ → Option ℕ
 delivery_of fabric packet =
     option_and_then (λ found. delivered_by (hop_of fabric found)) (packet_of packet fabric.packets)
 
--- whether it is this host
+-- the host delivered to is `host`
 abbrev pub is_host : ℕ → Option ℕ → Bool
 is_host host None = false
 is_host host (Some other) = other == host
@@ -95,7 +94,7 @@ arrival_of script before packet = record {
   tick = (fabric_after script before).tick;
 }
 
--- what arrives at a host by an event after others
+-- what arrives at a host by an event, after the events `before`
 abbrev pub arrivals_by : ScriptOf → ℕ → List Event → Event → List ArrivalOf
 arrivals_by script host before (Move packet) =
     if is_host host (delivery_of (fabric_after script before) packet)
@@ -105,12 +104,12 @@ arrivals_by script host before event = []
 abbrev pub arrivals_at : ScriptOf → ℕ → Moment → List ArrivalOf
 arrivals_at script host moment = arrivals_by script host moment.before moment.event
 
--- all that arrives there in a history, the newest first
+-- all that arrives at a host in a history, the newest first
 unfoldable pub arrivals_of : ScriptOf → List Event → ℕ → List ArrivalOf
 arrivals_of script history host = flat_map (arrivals_at script host) (reverse (moments history))
 
--- What a host believes that sends: the place of the event in the history, from 1, the host and the one to
--- which it sends, and where it would send by what it remembers.
+-- What a host that sends believes: the position of the event in the history, from 1, the host, the host to which it
+-- sends, and where it would send, given what it remembers.
 pub record Belief : Type 0 where
   pub place : ℕ
   pub from : ℕ
@@ -126,7 +125,7 @@ belief_of script before from to = record {
       (fabric_after script before).tick;
 }
 
--- one for each packet that is sent, in turn
+-- the beliefs of an event, of a `Moment` and of a history: one for each packet that is sent, in turn
 abbrev pub belief_by : ScriptOf → List Event → Event → List Belief
 belief_by script before (Send from to) = belief_of script before from to ∷ []
 belief_by script before event = []
@@ -137,7 +136,7 @@ belief_at script moment = belief_by script moment.before moment.event
 unfoldable pub beliefs_of : ScriptOf → List Event → List Belief
 beliefs_of script history = flat_map (belief_at script) (moments history)
 
--- its line
+-- the words of a belief
 abbrev pub choice_words : Choice → List (List ℕ)
 choice_words (Known address) = codes "known" ∷ decimal address ∷ []
 choice_words Broadcast = codes "broadcast" ∷ []
@@ -147,14 +146,14 @@ belief_words script belief =
     decimal belief.place ∷ host_text script belief.from ∷ codes "to" ∷ host_text script belief.to
     ∷ choice_words belief.choice
 
--- a line, and the lines of what is sent at a moment
+-- the line of a belief, and the lines of what is sent at a `Moment`
 abbrev pub belief_line : ScriptOf → Belief → List ℕ
 belief_line script belief = line_text (belief_words script belief)
 
 abbrev pub belief_text : ScriptOf → Moment → List ℕ
 belief_text script moment = flat_map (belief_line script) (belief_at script moment)
 
--- the last line: how many there were, how many of a known address, and how many broadcasts
+-- the last line: the number of packets sent, the number to a known address, and the number of broadcasts
 abbrev pub is_known : Choice → Bool
 is_known (Known address) = true
 is_known Broadcast = false
@@ -173,18 +172,18 @@ counts_words beliefs =
     counts_by (length beliefs) (count_by (λ belief. is_known belief.choice) beliefs)
     (count_by (λ belief. is_broadcast belief.choice) beliefs)
 
--- what hosts believe in a history
+-- the text of what hosts believe in a history
 unfoldable pub names_text : ScriptOf → List Event → List ℕ
 names_text script history =
     flat_map (belief_line script) (beliefs_of script history)
     ++ line_text (counts_words (beliefs_of script history))
 
--- the history is legal, with whatever end, and this is what hosts believe in it
+-- `history` is legal, with some end, and `text` is what hosts believe in it
 pub record AreNames (script : ScriptOf) (history : List Event) (text : List ℕ) : Type 0 where
   pub legal : HasLegalEnd script history
   pub says : text ≡ names_text script history
 
--- the bytes begin with the text of a journal, and this is what hosts believe in it
+-- `bytes` begins with the text of a journal, and `text` is what hosts believe in it
 pub record AreNamesIn (script : ScriptOf) (bytes text : List ℕ) : Type 0 where
   pub journal : List Event
   pub is_journal : IsJournal script bytes journal

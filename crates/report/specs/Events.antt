@@ -14,15 +14,15 @@ use Rattle.wire_set.specs.declared.side.Loss.{Loss}
 use Rattle.wire_set.specs.declared.side.Loss.TheVariants as loss
 use Rattle.host_traffic.specs.declared.hop.DropCause.{DropCause}
 use Rattle.host_traffic.specs.declared.hop.DropCause.TheVariants as cause
-use Rattle.fabric_state.specs.declared.ending.Ending.{Ending}
-use Rattle.fabric_state.specs.declared.ending.Ending.TheVariants as ending
-use Rattle.fabric_state.specs.Fabric.{FabricOf}
-use Rattle.fabric_state.specs.declared.line.Line.{Line}
-use Rattle.fabric_state.specs.declared.line.Line.TheVariants as line
-use Rattle.fabric_world.specs.World.{WorldOf, begun, step, world_after}
-use Rattle.fabric_world.specs.Lines.{lines_of, rows_after}
-use Rattle.fabric_world.specs.Histories.{IsLegal, end_of}
-use Rattle.fabric_settling.specs.Claims.{HoldsAndSettles}
+use Rattle.net_state.specs.declared.ending.Ending.{Ending}
+use Rattle.net_state.specs.declared.ending.Ending.TheVariants as ending
+use Rattle.net_state.specs.Fabric.{FabricOf}
+use Rattle.net_state.specs.declared.line.Line.{Line}
+use Rattle.net_state.specs.declared.line.Line.TheVariants as line
+use Rattle.net_world.specs.World.{WorldOf, begun, step, world_after}
+use Rattle.net_world.specs.Lines.{lines_of, rows_after}
+use Rattle.net_world.specs.Histories.{IsLegal, end_of}
+use Rattle.net_settling.specs.Claims.{HoldsAndSettles}
 use Rattle.journal.specs.Texts.{IsJournal}
 use Rattle.row_text.specs.Names.{life_text}
 use Rattle.row_text.specs.Rows.{row_form}
@@ -35,8 +35,7 @@ spaced_word word = codes " " ++ word
 unfoldable pub spaced : List (List ℕ) → List ℕ
 spaced words = flat_map spaced_word words
 
--- How far a network has come, as far as it is told: the present life of each switch, how many events came,
--- and the tick.
+-- How far a network has come, for the report: the present life of each switch, the number of events, and the tick.
 pub record CourseOf : Type 0 where
   pub lives : List LifeId
   pub events : ℕ
@@ -49,11 +48,11 @@ course_of fabric = record {
   tick = fabric.tick;
 }
 
--- so far the network of a script has come with a history
+-- how far the network of a script has come with a history
 abbrev pub course_after : ScriptOf → List Event → CourseOf
 course_after script history = course_of (world_after script history).fabric
 
--- a switch is printed as its present life, and a host by its name
+-- the text of a switch, which is that of its present life, and of a host, which is its name
 abbrev pub switch_text : ScriptOf → List LifeId → ℕ → List ℕ
 switch_text script lives place = option_map_or (life_text script) (slice_get lives place) []
 
@@ -69,24 +68,24 @@ state_word state.Who = codes "s.switch.who"
 state_word state.Loop = codes "s.switch.loop"
 state_word state.Good = codes "s.switch.good"
 
--- the other end of a good port
+-- the words for the other end of a good port
 abbrev pub end_words : ScriptOf → Option EndId → List (List ℕ)
 end_words script None = []
 end_words script (Some end) = life_text script end.life ∷ decimal end.port ∷ []
 
--- ports in other states have none
+-- the words for the peer of a port; ports in other states have none
 abbrev pub peer_words : ScriptOf → PortState → Option EndId → List (List ℕ)
 peer_words script state.Good peer = end_words script peer
 peer_words script other peer = []
 
--- why a frame was lost
+-- the words for why a frame was lost
 abbrev pub loss_words : Loss → List (List ℕ)
 loss_words loss.Down = codes "down" ∷ []
 loss_words loss.Told = codes "told" ∷ []
 loss_words (loss.NoRoom need free) =
     codes "room" ∷ codes "need" ∷ decimal need ∷ codes "free" ∷ decimal free ∷ []
 
--- why a packet was dropped, and to which host it was delivered
+-- the words for why a packet was dropped, and to which host it was delivered
 abbrev pub drop_word : DropCause → List ℕ
 drop_word cause.NoPort = codes "no-port"
 drop_word cause.NoTable = codes "no-table"
@@ -99,7 +98,7 @@ abbrev pub deliver_words : ScriptOf → Option ℕ → List (List ℕ)
 deliver_words script None = []
 deliver_words script (Some host) = codes "deliver" ∷ host_text script host ∷ []
 
--- the words of what is told of a packet, by the lives after the event
+-- the words that report an event of a packet, given the lives after the event
 abbrev pub packet_words : ScriptOf → List LifeId → Line → List (List ℕ)
 packet_words script lives (line.Packet packet from to address) =
     codes "packet" ∷ decimal packet ∷ host_text script from ∷ codes "to" ∷ host_text script to
@@ -114,7 +113,7 @@ packet_words script lives (line.Fell packet place why) =
     codes "move" ∷ decimal packet ∷ switch_text script lives place ∷ codes "drop" ∷ drop_word why ∷ []
 packet_words script lives other = []
 
--- the words of what is told of an event
+-- the words that report an event
 abbrev pub told_words : ScriptOf → List LifeId → Line → List (List ℕ)
 told_words script lives (line.Port place port state peer) =
     switch_text script lives place ∷ codes "port" ∷ decimal port ∷ state_word state
@@ -138,22 +137,22 @@ told_words script lives (line.Mended place port) =
 told_words script lives (line.Restarted place) = codes "restart" ∷ switch_text script lives place ∷ []
 told_words script lives other = packet_words script lives other
 
--- whether the table has a line for an entry: it has one for entry 0, and for each other entry that has rows
+-- the table has a line for the entry, which is 0 or has rows
 abbrev pub has_line : List RowOf → ℕ → Bool
 has_line rows entry = (entry == 0) || list_any (λ row. row.entry == entry) rows
 
--- the lines of a table, by rising entry
+-- the lines of a table, in ascending order of entry
 abbrev pub rows_in_use : ScriptOf → LifeId → List RowOf → List ℕ
 rows_in_use script life rows =
     table_text (map (row_form script life rows) (filter (has_line rows) (range_with_len 0 13)))
 
--- after the line of a load stand those of the table that is then in use
+-- after the line of a load follow the lines of the table that is then in use
 abbrev pub rows_text : ScriptOf → List LifeId → List RowOf → Line → List ℕ
 rows_text script lives rows (line.Load place epoch number) =
     option_map_or (λ life. rows_in_use script life rows) (slice_get lives place) []
 rows_text script lives rows told = []
 
--- A line of an event begins with the place of the event in the history, from 1.
+-- A line of an event begins with the position of the event in the history, from 1.
 unfoldable pub told_text : ScriptOf → CourseOf → List RowOf → Line → List ℕ
 told_text script course rows told =
     decimal course.events ++ spaced (told_words script course.lives told) ++ codes "\n"
@@ -187,7 +186,7 @@ unfoldable pub line_of_end : ScriptOf → CourseOf → Ending → List ℕ
 line_of_end script course end =
     codes "end" ++ spaced (ending_words script end ++ place_words course) ++ codes "\n"
 
--- none before an end has come
+-- the last line; empty before an end has come
 abbrev pub last_line : ScriptOf → CourseOf → Option Ending → List ℕ
 last_line script course None = []
 last_line script course (Some end) = line_of_end script course end
@@ -198,13 +197,13 @@ report_text script history =
     codes "report 1\n" ++ events_text script (begun script) history
     ++ last_line script (course_after script history) (end_of script history)
 
--- The history is legal with this end, the text is its report, and all that is claimed of it holds.
+-- `history` is legal with the end `end`, `text` is its report, and all that is claimed of it holds.
 pub record IsReport (script : ScriptOf) (history : List Event) (end : Ending) (text : List ℕ) : Type 0 where
   pub legal : IsLegal script history end
   pub says : text ≡ report_text script history
   pub claims : HoldsAndSettles script history
 
--- The bytes begin with the text of a journal, and this is its report, with the tick at its end.
+-- `bytes` begins with the text of a journal, and `text` is its report, with the tick at its end.
 pub record IsReportOf (script : ScriptOf) (bytes : List ℕ) (end : Ending) (tick : ℕ) (text : List ℕ)
     : Type 0 where
   pub journal : List Event
@@ -212,6 +211,6 @@ pub record IsReportOf (script : ScriptOf) (bytes : List ℕ) (end : Ending) (tic
   pub is_report : IsReport script journal end text
   pub tick_is : tick ≡ (world_after script journal).fabric.tick
 
--- a history is legal, with whatever end
+-- `history` is legal, with some end
 abbrev pub HasLegalEnd : ScriptOf → List Event → Type 0
 HasLegalEnd script history = (end : Ending) × IsLegal script history end

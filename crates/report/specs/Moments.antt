@@ -1,4 +1,4 @@
--- The moments of a history, and a text that is told of it moment by moment.
+-- The moments of a history, and a text that is printed moment by moment.
 
 use Rattle.std.specs.Prelude.{◌≡◌, List, [], ◌∷◌, ◌++◌, ℕ, Option, Some}
 use Rattle.std.specs.List.{flat_map}
@@ -6,21 +6,21 @@ use Rattle.std.specs.Option.{option_map_or}
 use Rattle.an_base.specs.declared.event.Event.{Event}
 use Rattle.net_script.specs.Scripts.{ScriptOf}
 use Rattle.journal.specs.Texts.{IsJournal}
-use Rattle.fabric_state.specs.declared.ending.Ending.{Ending}
-use Rattle.fabric_state.specs.declared.line.Line.{Line}
-use Rattle.fabric_world.specs.Histories.{IsLegal}
-use Rattle.fabric_world.specs.Lines.{lines_of}
-use Rattle.fabric_world.specs.World.{world_after}
-use Rattle.fabric_settling.specs.Claims.{HoldsAndSettles}
+use Rattle.net_state.specs.declared.ending.Ending.{Ending}
+use Rattle.net_state.specs.declared.line.Line.{Line}
+use Rattle.net_world.specs.Histories.{IsLegal}
+use Rattle.net_world.specs.Lines.{lines_of}
+use Rattle.net_world.specs.World.{world_after}
+use Rattle.net_settling.specs.Claims.{HoldsAndSettles}
 use Rattle.fabric_book.specs.Nets.{NetOf}
 use Rattle.replay.specs.Replays.{HasMade}
 
--- an event of a history, with those before it
+-- a moment: an event of a history, with the events before it
 pub record Moment : Type 0 where
   pub before : List Event
   pub event : Event
 
--- the moments of what comes after some events, and those of a history
+-- the moments of the events that follow some events, and the moments of a history
 abbrev pub moments_after : List Event → List Event → List Moment
 moments_after before [] = []
 moments_after before (event ∷ events) =
@@ -29,8 +29,8 @@ moments_after before (event ∷ events) =
 abbrev pub moments : List Event → List Moment
 moments history = moments_after [] history
 
--- What is told of a history so far: a beginning, and what is told at each moment; and the whole text, which
--- has the last line if an end has come.
+-- What is printed of a history so far: a beginning, and what is printed at each moment. The whole text also has the
+-- last line if an end has come.
 unfoldable pub told_so_far : List ℕ → (Moment → List ℕ) → List Event → List ℕ
 told_so_far first told history = first ++ flat_map told (moments history)
 
@@ -38,14 +38,15 @@ unfoldable pub told_whole :
     List ℕ → (Moment → List ℕ) → (Ending → List ℕ) → List Event → Option Ending → List ℕ
 told_whole first told last history end = told_so_far first told history ++ option_map_or last end []
 
--- A history is legal with this end, all that is claimed of it holds, and this is what is told of it.
+-- `history` is legal with the end `end`, all that is claimed of it holds, and `text` is what is printed of it.
 pub record IsTold (script : ScriptOf) (history : List Event) (first : List ℕ) (told : Moment → List ℕ)
     (last : List Event → Ending → List ℕ) (end : Ending) (text : List ℕ) : Type 0 where
   pub legal : IsLegal script history end
   pub claims : HoldsAndSettles script history
   pub says : text ≡ told_whole first told (last history) history (Some end)
 
--- The bytes begin with the text of a journal, this is what is told of it, and what is kept is that of its events.
+-- `bytes` begins with the text of a journal, `text` is what is printed of it, and what is kept belongs to its
+-- events.
 pub record IsToldOf (script : ScriptOf) (bytes first : List ℕ) (told : Moment → List ℕ)
     (last : List Event → Ending → List ℕ) (Stands : List Event → Type 0) (end : Ending) (text : List ℕ)
     : Type 0 where
@@ -54,7 +55,7 @@ pub record IsToldOf (script : ScriptOf) (bytes first : List ℕ) (told : Moment 
   pub is_told : IsTold script journal first told last end text
   pub stands : Stands journal
 
--- A network has made an event after those before it, each of which was lawful, and this is told of the last one.
+-- A network has made `event` after the events `before`, each of which was lawful, and `lines` report the last one.
 pub record IsHeard (before : List Event) (event : Event) (net : NetOf) (lines : List Line) : Type 0 where
   pub made : HasMade net.script (before ++ event ∷ []) net
   pub lines_are : lines ≡ lines_of (world_after net.script before) event

@@ -1,4 +1,4 @@
--- What private functions alone cite: what is kept of packets and hosts beside a network.
+-- Definitions that only private functions cite: what is kept of packets and hosts next to a network.
 
 use Rattle.std.specs.Prelude.{◌≡◌, ◌+◌, ◌≤◌, ◌<◌, ℕ, List, [], ◌∷◌, ◌++◌, All, length, map, count_by, Option, Some, None, slice_get, slice_index_or, slice_set, unwrap_or}
 use Rattle.std.specs.Option.{option_map, option_and_then}
@@ -7,17 +7,17 @@ use Rattle.net_graph.specs.declared.wiring.HostOn.{HostOn}
 use Rattle.net_script.specs.Scripts.{IsScript, ScriptOf}
 use Rattle.host_names.specs.declared.choice.Choice.{Choice}
 use Rattle.host_names.specs.Caches.{ArrivalOf, choice_of, kept_of, with_arrival}
-use Rattle.fabric_state.specs.Fabric.{FabricOf}
-use Rattle.fabric_world.specs.Histories.{IsLawful}
-use Rattle.fabric_world.specs.Lines.{lines_of}
-use Rattle.fabric_world.specs.World.{world_after}
-use Rattle.fabric_state.specs.declared.line.Line.{Line}
-use Rattle.fabric_state.specs.declared.line.Line.TheVariants as line
+use Rattle.net_state.specs.Fabric.{FabricOf}
+use Rattle.net_world.specs.Histories.{IsLawful}
+use Rattle.net_world.specs.Lines.{lines_of}
+use Rattle.net_world.specs.World.{world_after}
+use Rattle.net_state.specs.declared.line.Line.{Line}
+use Rattle.net_state.specs.declared.line.Line.TheVariants as line
 use Rattle.report.specs.declared.naming.Traced.{Traced}
 use Rattle.report.specs.Beliefs.{address_at, address_in, arrivals_of, beliefs_of, fabric_after, first_move, host_in, is_known}
 use Rattle.report.specs.Beliefs.{senders}
 
--- to which host a packet is delivered, by what is told of its hop
+-- the host to which a packet is delivered, given the lines that report its hop
 abbrev pub delivery_in : List Line → Option ℕ
 delivery_in [] = None
 delivery_in (line.Moved packet place epoch entry exit host ∷ lines) = host
@@ -27,23 +27,23 @@ delivery_in (other ∷ lines) = None
 abbrev pub nothing_sent : Traced
 nothing_sent = record { host = 0; source = None }
 
--- what is kept of the packet at a place, from 0: that of the number one above it
+-- what is kept of the packet at an index, from 0; its number is one higher
 abbrev pub traced_at : List Traced → ℕ → Traced
 traced_at packets place = slice_index_or packets place nothing_sent
 
--- The packet at a place comes from this address, unless it has moved before: then it comes from where it
--- came.
+-- The address from which the packet at an index comes: `address`, unless it has moved before; then the address of
+-- its first move.
 abbrev pub source_with : List Traced → (place address : ℕ) → ℕ
 source_with packets place address = unwrap_or (traced_at packets place).source address
 
--- and this is kept of it, so that a later address changes nothing
+-- the packets with that address kept, so that a later address changes nothing
 abbrev pub with_source : List Traced → (place address : ℕ) → List Traced
 with_source packets place address = slice_set packets place (record {
   host = (traced_at packets place).host;
   source = Some (source_with packets place address);
 })
 
--- what a host keeps, and what all keep if something arrives at one
+-- what a host keeps, and what all hosts keep if something arrives at one
 abbrev pub cache_at : List (List ArrivalOf) → ℕ → List ArrivalOf
 cache_at caches host = slice_index_or caches host []
 
@@ -54,11 +54,11 @@ abbrev pub with_delivery : ArrivalOf → Option ℕ → List (List ArrivalOf) �
 with_delivery arrival None caches = caches
 with_delivery arrival (Some host) caches = with_arrival_at arrival host caches
 
--- where a host sends, by what it keeps
+-- where a host sends, given what it keeps
 abbrev pub choice_at : ScriptOf → List (List ArrivalOf) → (from to now : ℕ) → Choice
 choice_at script caches from to now = choice_of (cache_at caches from) (host_in script to).uid now
 
--- the sender of the packet at a place, its address by the table in use, and the packet's arrival
+-- the sender of the packet at an index, its address by the table in use, and the packet's arrival
 abbrev pub sender_in : ScriptOf → List Traced → ℕ → HostOn
 sender_in script packets place = host_in script (traced_at packets place).host
 
@@ -72,15 +72,16 @@ arrival_in script fabric packets place = record {
   tick = fabric.tick;
 }
 
--- all that came to a host came until this tick
+-- all that came to a host came at `tick` or before
 abbrev pub CameUntil : ℕ → List (List ArrivalOf) → Type 0
 CameUntil tick caches = (host : ℕ) → All (λ arrival. arrival.tick ≤ tick) (cache_at caches host)
 
--- from where the packet at a place comes, if it has moved
+-- the address from which the packet at an index comes, if it has moved
 abbrev pub source_at : List Traced → ℕ → Option ℕ
 source_at packets place = option_and_then (λ packet. packet.source) (slice_get packets place)
 
--- the hosts that sent the packets of a history, by rising number, and where those come from that have moved
+-- the hosts that sent the packets of a history, in ascending order of packet number, and the addresses from which
+-- those that have moved come
 pub record AreTraced (script : ScriptOf) (history : List Event) (packets : List Traced) : Type 0 where
   pub hosts : map (λ packet. packet.host) packets ≡ senders history
   pub sources : (place : ℕ) → source_at packets place
@@ -95,7 +96,7 @@ pub record AreRemembered (script : ScriptOf) (history : List Event) (caches : Li
       → cache_at caches host ≡ kept_of (arrivals_of script history host)
   pub ticks : CameUntil (fabric_after script history).tick caches
 
--- what is kept of a history, with how many packets were sent to a known address
+-- what is kept of a history, with the number of packets sent to a known address
 pub record KeepBeliefs (script : ScriptOf) (history : List Event) (own : ScriptOf) (packets : List Traced)
     (caches : List (List ArrivalOf)) (known : ℕ) : Type 0 where
   pub own_is : own ≡ script
@@ -104,8 +105,7 @@ pub record KeepBeliefs (script : ScriptOf) (history : List Event) (own : ScriptO
   pub count : length packets ≡ length (beliefs_of script history)
   pub known_are : known ≡ count_by (λ belief. is_known belief.choice) (beliefs_of script history)
 
--- An event comes to what is kept: it is lawful, it stands at this place, the fabric is that after it, and
--- this is told of it.
+-- An event comes: it is lawful, `place` is its position, `fabric` is the state after it, and `lines` report it.
 pub record Meets (script : ScriptOf) (before : List Event) (event : Event) (fabric : FabricOf) (place : ℕ)
     (lines : List Line) (own : ScriptOf) (packets : List Traced) (caches : List (List ArrivalOf)) (known : ℕ)
     : Type 0 where

@@ -1,4 +1,4 @@
-//! How far a network has come, as far as it is told.
+//! How far a network has come, for the report.
 
 ghost use Rattle.std.specs.Prelude.{◌≡◌, ◌++◌, ◌∷◌, [], List, slice_get, IfOk};
 ghost use Rattle.an_base.specs.declared.event.Event.{Event};
@@ -8,13 +8,13 @@ ghost use Rattle.report.specs.Retellings.{Comes};
 
 use an_base::event::Event;
 use an_base::life::Life;
-use an_base::memory::OutOfMemory;
 use an_base::place::Place;
+use common_values::memory::OutOfMemory;
 use net_script::script::Script;
 use std::alloc::Global;
 use std::marker::Model;
 
-/// How far a network has come: the present life of each switch, how many events came, and the tick.
+/// How far a network has come: the present life of each switch, the number of events, and the tick.
 #[derive(Drop)]
 pub(crate) struct Course {
     lives: Vec<Life>,
@@ -31,7 +31,10 @@ impl Model for Course {
 }
 
 impl Course {
-    /// The course of a network in which nothing has come yet.
+    /// Returns the course of a network in which no event has come.
+    ///
+    /// # Errors
+    /// `OutOfMemory` if an allocation fails.
     pub fn begin(alloc: Global, script: &Script) -> Result<Course, OutOfMemory>
         ensures course { IfOk result (λ course. course ≡ course_after script.now []) }
         ensures kept { IsScript script.now }
@@ -49,28 +52,28 @@ impl Course {
         })
     }
 
-    /// The present life of a switch, if there is one at this place.
+    /// Returns the present life of the switch at `s`, if there is one.
     pub fn life(&self, s: Place) -> Option<Life>
         ensures { result ≡ slice_get self.now.lives s }
     {
         self.lives.get(usize::from(s)).copied()
     }
 
-    /// How many events came.
+    /// Returns the number of events.
     pub fn events(&self) -> u32
         ensures { result ≡ self.now.events }
     {
         self.events
     }
 
-    /// The tick.
+    /// Returns the tick.
     pub fn tick(&self) -> u32
         ensures { result ≡ self.now.tick }
     {
         self.tick
     }
 
-    /// A lawful event comes.
+    /// Follows a lawful event.
     pub fn follow(&mut self, event: &Event)
         requires { (script : ScriptOf) × (history : List Event) × Comes script history event.now self.old }
         ensures { (script : ScriptOf) (history : List Event) → Comes script history event.now self.old

@@ -1,41 +1,41 @@
-//! What listens to the events of a journal, and tells of them, while a network makes them.
+//! What follows the events of a journal, and prints them, while a network makes them.
 
 ghost use Rattle.std.specs.Prelude.{◌≡◌, ◌<◌, ◌-◌, ◌^◌, ◌∷◌, ◌++◌, [], List, ℕ, length, IfErr, IfOk, OnOk};
 ghost use Rattle.an_base.specs.declared.event.Event.{Event};
 ghost use Rattle.net_script.specs.Scripts.{ScriptOf};
 ghost use Rattle.journal.specs.Reading.{HasRead};
-ghost use Rattle.fabric_state.specs.declared.ending.Ending.{Ending};
+ghost use Rattle.net_state.specs.declared.ending.Ending.{Ending};
 ghost use Rattle.fabric_book.specs.Nets.{history_of};
 ghost use Rattle.replay.specs.Replays.{HasMade, IfIllegal, IsNoReplay, IsRefusal, IsUnlawfulNext};
 ghost use Rattle.report.specs.Moments.{IsHeard, IsTold, IsToldOf, Moment};
 
 use an_base::event::{Event, Journal};
-use an_base::memory::OutOfMemory;
+use common_values::memory::OutOfMemory;
 use fabric_book::lines::Lines;
 use fabric_book::net::Net;
-use fabric_state::ending::Ending;
-use fabric_state::line::Line;
 use journal::reader::Reader;
 use net_script::script::Script;
+use net_state::ending::Ending;
+use net_state::line::Line;
 use replay::refusal::ReplayRefusal;
 use replay::world::{end_of, refused, step};
 use std::alloc::Global;
 
-/// What listens to the events of a journal, and tells of them.
+/// Follows the events of a journal, and prints them.
 pub(crate) trait Listener {
     /// The beginning of the text.
     ghost first: { List ℕ };
 
-    /// What is told of the event of a moment.
+    /// What is printed of the event of a `Moment`.
     ghost told: { ScriptOf → Moment → List ℕ };
 
     /// The last line, if a history has come to an end.
     ghost last: { ScriptOf → List Event → Ending → List ℕ };
 
-    /// What it keeps is that of these events.
+    /// What the listener keeps belongs to these events.
     ghost stands: { Self → ScriptOf → List Event → Type 0 };
 
-    /// Hears that an event has come in a network, of which these lines tell, and tells of it.
+    /// Follows an event that has come in a network, which `lines` report, and prints it.
     fn hear(
         &mut self,
         net: &Net,
@@ -52,7 +52,7 @@ pub(crate) trait Listener {
             → stands self.old net.now.script before → OnOk result (text.new.items ≡ text.old.items
             ++ told net.now.script (record { before = before; event = event.now })) };
 
-    /// Tells the last line.
+    /// Prints the last line.
     fn finish(&self, net: &Net, end: &Ending, text: &mut Vec<u8>) -> Result<(), OutOfMemory>
         requires made { HasMade net.now.script net.now.events net.now }
         requires stands { stands self.now net.now.script net.now.events }
@@ -60,7 +60,7 @@ pub(crate) trait Listener {
             ++ last net.now.script net.now.events end.now) };
 }
 
-// Makes the next event of a journal, and has it heard.
+// Makes the next event of a journal, and passes it to the listener.
 fn hear_next<L: Listener>(
     net: &mut Net,
     lines: &mut Lines,
@@ -82,7 +82,8 @@ fn hear_next<L: Listener>(
     Ok(())
 }
 
-// Makes the events of a journal, of which a reader has read none yet, and has them and their end heard.
+// Makes the events of a journal, of which a reader has read none yet, and passes them and their end to the
+// listener.
 fn hear_read<L: Listener>(
     reader: &mut Reader,
     net: &mut Net,
@@ -109,7 +110,7 @@ fn hear_read<L: Listener>(
     Ok(end)
 }
 
-// The same of a journal that is at hand.
+// As `hear_read`, for a journal in memory.
 fn hear_all<L: Listener>(
     journal: &Journal,
     net: &mut Net,
@@ -134,7 +135,7 @@ fn hear_all<L: Listener>(
     Ok(end)
 }
 
-// The same of a reader, in a network of the script.
+// Prints the journal of a reader, in a network of the script.
 fn tell_read<L: Listener>(
     alloc: Global,
     script: &Script,
@@ -156,7 +157,7 @@ fn tell_read<L: Listener>(
     }
 }
 
-/// Tells of the journal with whose text the bytes begin, if it is legal, and answers its end. Its events are made as
+/// Prints the journal with whose text `bytes` begins, if it is legal, and returns its end. Its events are made as
 /// they are read.
 pub(crate) fn tell<L: Listener>(
     alloc: Global,
@@ -176,7 +177,7 @@ pub(crate) fn tell<L: Listener>(
     tell_read(alloc, script, &mut reader, listener, text)
 }
 
-/// Tells of a journal, if it is legal, and answers its end.
+/// Prints a journal, if it is legal, and returns its end.
 pub(crate) fn tell_journal<L: Listener>(
     alloc: Global,
     script: &Script,

@@ -4,29 +4,29 @@ ghost use Rattle.std.specs.Prelude.{◌≡◌, ◌<◌, ◌≤◌, ◌+◌, ◌-
 ghost use Rattle.an_base.specs.declared.event.Event.{Event};
 ghost use Rattle.net_script.specs.Scripts.{ScriptOf};
 ghost use Rattle.replay.specs.Replays.{IfIllegal, IsNoReplay};
-ghost use Rattle.text_lines.specs.Lines.{line_text};
+ghost use Rattle.common_lines.specs.Lines.{line_text};
 ghost use Rattle.report.specs.Beliefs.{AreNamesIn, address_in, belief_line, belief_text, counts_by, host_in, is_known};
 ghost use Rattle.report.specs.Remembering.{CameUntil, KeepBeliefs, Meets, arrival_in, choice_at, delivery_in};
 ghost use Rattle.report.specs.Remembering.{own_address, source_with, with_arrival_at, with_delivery, with_source};
 
 use crate::listener::{Listener, tell};
 use an_base::event::Event;
-use an_base::memory::OutOfMemory;
+use common_lines::spelling::{decimal, push_line};
+use common_values::memory::OutOfMemory;
 use fabric_book::net::Net;
-use fabric_state::ending::Ending;
-use fabric_state::fabric::Fabric;
-use fabric_state::host::host_at;
-use fabric_state::line::Line;
 use host_names::cache::Cache;
 use host_names::choice::Choice;
 use net_graph::wiring::HostOn;
+use net_names::names::Names;
 use net_script::script::Script;
+use net_state::ending::Ending;
+use net_state::fabric::Fabric;
+use net_state::host::host_at;
+use net_state::line::Line;
 use replay::refusal::ReplayRefusal;
 use std::alloc::Global;
-use text_lines::names::Names;
-use text_lines::spelling::{decimal, push_line};
 
-// A packet that was sent: the place of the host that sent it, and the address from which it comes, once it has
+// A packet that was sent: the index of the host that sent it, and the address from which it comes, once it has
 // moved.
 #[derive(Clone, Copy)]
 struct Traced {
@@ -34,14 +34,14 @@ struct Traced {
     source: Option<u16>,
 }
 
-// The host at a place.
+// Returns the host at an index.
 fn host_in(script: &Script, host: u16) -> HostOn
     ensures { result ≡ host_in script.now host }
 {
     host_at(script.wiring().hosts(), host)
 }
 
-// The name of the host at a place.
+// Returns the name of the host at an index.
 fn host_name(names: &Names, host: u16) -> &[u8]
     ensures { result.now ≡ slice_index_or names.now host [] }
 {
@@ -52,7 +52,7 @@ fn host_name(names: &Names, host: u16) -> &[u8]
     &[]
 }
 
-// The address of a host by the table in use at its switch.
+// Returns the address of a host by the table in use at its switch.
 fn address_in(fabric: &Fabric, host: &HostOn) -> u16
     ensures { result ≡ address_in fabric.now host.now }
 {
@@ -62,7 +62,7 @@ fn address_in(fabric: &Fabric, host: &HostOn) -> u16
     }
 }
 
-// The host to which a packet is delivered, by what is told of its hop.
+// Returns the host to which a packet is delivered, given the lines that report its hop.
 fn delivery_in(lines: &[Line]) -> Option<u16>
     ensures { result ≡ delivery_in lines.now }
 {
@@ -72,7 +72,7 @@ fn delivery_in(lines: &[Line]) -> Option<u16>
     }
 }
 
-// A cache of nothing for each of so many hosts.
+// Returns `count` empty caches, one for each host.
 fn caches(alloc: Global, count: usize) -> Result<Vec<Cache>, OutOfMemory>
     ensures { IfOk result (λ caches. caches.items ≡ replicate count []) }
 {
@@ -83,7 +83,8 @@ fn caches(alloc: Global, count: usize) -> Result<Vec<Cache>, OutOfMemory>
     Ok(all)
 }
 
-// A packet moves: if it has not moved before, it comes from this address. Answers where it comes from.
+// Notes that a packet moves: if it has not moved before, it comes from `address`. Returns the address from which it
+// comes.
 fn note(packets: &mut Vec<Traced>, place: usize, address: u16) -> u16
     requires { place < length packets.old.items }
     ensures packets { packets.new.items ≡ with_source packets.old.items place address }
@@ -94,7 +95,7 @@ fn note(packets: &mut Vec<Traced>, place: usize, address: u16) -> u16
     source
 }
 
-// A packet arrives at a host.
+// Records that a packet arrives at a host.
 fn arrive(caches: &mut Vec<Cache>, host: u16, uid: u64, address: u16, now: u32)
     requires { CameUntil now caches.old.items }
     ensures caches { caches.new.items
@@ -107,7 +108,7 @@ fn arrive(caches: &mut Vec<Cache>, host: u16, uid: u64, address: u16, now: u32)
     }
 }
 
-// Whether the address is known.
+// Reports whether the address is known.
 fn is_known(choice: Choice) -> bool
     ensures { result ≡ is_known choice }
 {
@@ -168,7 +169,7 @@ fn push_counts(
     )
 }
 
-// What is kept of packets and hosts while a journal is told.
+// What is kept of packets and hosts while a journal is printed.
 #[derive(Drop)]
 struct Believing<'a> {
     alloc: Global,
@@ -179,7 +180,7 @@ struct Believing<'a> {
 }
 
 impl<'a> Believing<'a> {
-    // At the beginning.
+    // Creates what is kept at the beginning.
     fn begin(alloc: Global, script: &'a Script) -> Result<Self, OutOfMemory>
         ensures { IfOk result (λ new.
             KeepBeliefs script.now [] new.script.now new.packets.items new.caches.items new.known) }
@@ -193,7 +194,7 @@ impl<'a> Believing<'a> {
         })
     }
 
-    // Where a host sends.
+    // Returns where a host sends.
     fn choice(&self, from: u16, to: u16, now: u32) -> Choice
         requires within { from < length self.now.caches.items }
         requires ticks { CameUntil now self.now.caches.items }
@@ -203,7 +204,7 @@ impl<'a> Believing<'a> {
         self.caches[usize::from(from)].choose(uid, now)
     }
 
-    // A host has sent a packet, by the event at this place.
+    // Records that a host has sent a packet, by the event at this position.
     fn send(
         &mut self,
         place: u32,
@@ -242,7 +243,7 @@ impl<'a> Believing<'a> {
         Ok(())
     }
 
-    // A packet has made a hop, to the host of its delivery, if it was one.
+    // Records that a packet has made a hop, and to which host it was delivered, if it was.
     fn hop(&mut self, fabric: &Fabric, packet: u32, delivered: Option<u16>)
         requires least { 1 ≤ packet }
         requires most { packet ≤ length self.old.packets.items }
@@ -264,7 +265,7 @@ impl<'a> Believing<'a> {
         }
     }
 
-    // The event at this place has come, of which the lines tell.
+    // Follows the event at this position, which `lines` report.
     fn meet(
         &mut self,
         fabric: &Fabric,
@@ -301,7 +302,7 @@ impl<'a> Believing<'a> {
 
 impl Listener for Believing<'_> {
     ghost use Rattle.std.specs.Prelude.{[]};
-    ghost use Rattle.text_lines.specs.Lines.{line_text};
+    ghost use Rattle.common_lines.specs.Lines.{line_text};
     ghost use Rattle.report.specs.Beliefs.{belief_text, beliefs_of, counts_words};
     ghost use Rattle.report.specs.Remembering.{KeepBeliefs};
 
@@ -338,8 +339,13 @@ impl Listener for Believing<'_> {
     }
 }
 
-/// What hosts believe in the journal with whose text the bytes begin, if it is legal: for each packet that a host
-/// sends, to where it would send it by what came to it before; and last how many these are.
+/// Returns what hosts believe in the journal with whose text `bytes` begins: for each packet that a host sends,
+/// where it would send it, given what came to it before; and last the numbers of these. The caller must pass fewer
+/// than 2^32 - 1 bytes.
+///
+/// # Errors
+/// `Illegal` with the first error of a text that is not a journal, or why the journal is not legal; or
+/// `OutOfMemory`, which says nothing about `bytes`.
 pub fn names(alloc: Global, script: &Script, bytes: &[u8]) -> Result<Vec<u8>, ReplayRefusal>
     requires few { length bytes.now < 2 ^ 32 - 1 }
     ensures names { IfOk result (λ text. AreNamesIn script.now bytes.now text.items) }

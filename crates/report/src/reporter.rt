@@ -1,8 +1,8 @@
 //! The report of a journal.
 
 ghost use Rattle.std.specs.Prelude.{◌≡◌, ◌<◌, ◌-◌, ◌^◌, length, IfErr, IfOk, OnOk, Err};
-ghost use Rattle.fabric_world.specs.World.{world_after};
-ghost use Rattle.fabric_settling.specs.Claims.{HoldsAndSettles};
+ghost use Rattle.net_world.specs.World.{world_after};
+ghost use Rattle.net_settling.specs.Claims.{HoldsAndSettles};
 ghost use Rattle.outside.specs.Told.{Failed, Gains, GainsFront, IsNoLess};
 ghost use Rattle.replay.specs.Replays.{IfIllegal, IsNoReplay, IsRefusal};
 ghost use Rattle.replay.specs.declared.refusal.ReplayRefusal.TheVariants as refusal;
@@ -14,10 +14,10 @@ use crate::listener::{tell, tell_journal};
 use crate::telling::{Telling, first_line};
 use an_base::event::Journal;
 use an_base::life::Life;
-use an_base::memory::OutOfMemory;
-use an_base::text::Word;
-use fabric_state::ending::Ending;
+use common_values::memory::OutOfMemory;
+use common_values::text::Word;
 use net_script::script::Script;
+use net_state::ending::Ending;
 use outside::all::{WriteFault, write_all};
 use outside::sink::Sink;
 use replay::refusal::ReplayRefusal;
@@ -27,9 +27,9 @@ use std::alloc::Global;
 /// Why a report was not written.
 #[derive(Clone, Copy, Debug, PartialEq, Eq)]
 pub enum ReportStop {
-    /// The sink failed. It has a front of the report.
+    /// The sink failed. It has a prefix of the report.
     WriteFault,
-    /// No memory was found. The sink has a front of the report.
+    /// An allocation failed. The sink has a prefix of the report.
     OutOfMemory,
 }
 
@@ -60,8 +60,11 @@ pub struct Report {
     pub tick: u32,
 }
 
-/// The report of a journal, if it is legal. `Illegal` says the line of its first event that is not lawful, or
-/// the last line if it comes to no end. `OutOfMemory` says nothing of the journal.
+/// Returns the report of a legal journal.
+///
+/// # Errors
+/// `Illegal` with the line of the first event that is not lawful, or with the last line if the journal comes to no
+/// end; or `OutOfMemory`, which says nothing about the journal.
 pub fn reported(alloc: Global, script: &Script, journal: &Journal) -> Result<Report, ReplayRefusal>
     ensures report { IfOk result (λ report. IsReport script.now journal.now report.end report.text.items) }
     ensures tick { IfOk result (λ report. report.tick ≡ (world_after script.now journal.now).fabric.tick) }
@@ -77,9 +80,12 @@ pub fn reported(alloc: Global, script: &Script, journal: &Journal) -> Result<Rep
     })
 }
 
-/// The report of the journal with whose text the bytes begin, if it is legal. Its events are made as they are
-/// read. `Illegal` says the first fault of a text that is no journal, or why the journal is not legal.
-/// `OutOfMemory` says nothing of the bytes.
+/// Returns the report of the legal journal with whose text `bytes` begins. Its events are made as they are read.
+/// The caller must pass fewer than 2^32 - 1 bytes.
+///
+/// # Errors
+/// `Illegal` with the first error of a text that is not a journal, or why the journal is not legal; or
+/// `OutOfMemory`, which says nothing about `bytes`.
 pub fn reported_text(alloc: Global, script: &Script, bytes: &[u8]) -> Result<Report, ReplayRefusal>
     requires few { length bytes.now < 2 ^ 32 - 1 }
     ensures report { IfOk result (λ report.
@@ -96,7 +102,7 @@ pub fn reported_text(alloc: Global, script: &Script, bytes: &[u8]) -> Result<Rep
     })
 }
 
-// Why a report stops at a legal journal, which is refused for want of memory alone.
+// Returns why a report stops at a legal journal, which is rejected only if memory runs out.
 fn stop_of(why: ReplayRefusal) -> ReportStop
     requires { why ≡ refusal.OutOfMemory }
     ensures { result ≡ stop.OutOfMemory }
@@ -107,7 +113,10 @@ fn stop_of(why: ReplayRefusal) -> ReportStop
     }
 }
 
-/// Writes the report of a legal journal. All that is claimed of a history holds of it.
+/// Writes the report of `journal`, which must be legal. All that is claimed of a history holds of it.
+///
+/// # Errors
+/// `WriteFault` if `sink` failed, or `OutOfMemory`; `sink` then has a prefix of the report.
 pub fn write<K: Sink>(
     alloc: Global,
     script: &Script,
@@ -131,7 +140,10 @@ pub fn write<K: Sink>(
     }
 }
 
-/// The name of a life, as it is printed.
+/// Returns the printed name of `life`.
+///
+/// # Errors
+/// `OutOfMemory` if an allocation fails.
 pub fn life_name(alloc: Global, script: &Script, life: Life) -> Result<Word, OutOfMemory>
     ensures { IfOk result (λ name. name ≡ life_text script.now life) }
 {

@@ -1,15 +1,15 @@
-//! The report of a run, of whose events each caller has told.
+//! The report of a run, of whose events each caller has reported its own.
 
 ghost use Rattle.std.specs.Prelude.{◌≡◌, ◌∷◌, ◌++◌, [], List, IfOk, IfSome, IsNone, OnOk, codes, map};
 ghost use Rattle.an_base.specs.Rows.{RowOf};
 ghost use Rattle.an_base.specs.declared.event.Event.{Event};
-ghost use Rattle.fabric_state.specs.declared.line.Line.{Line};
-ghost use Rattle.fabric_state.specs.declared.line.PlacedLine.{PlacedLine};
-ghost use Rattle.fabric_world.specs.Accounts.{loaded_rows, placed};
-ghost use Rattle.fabric_world.specs.Lines.{rows_after};
-ghost use Rattle.fabric_world.specs.Histories.{IsLegal, owner_of};
-ghost use Rattle.fabric_world.specs.World.{WorldOf, step, world_after};
-ghost use Rattle.fabric_settling.specs.Claims.{HoldsAndSettles};
+ghost use Rattle.net_state.specs.declared.line.Line.{Line};
+ghost use Rattle.net_state.specs.declared.line.PlacedLine.{PlacedLine};
+ghost use Rattle.net_world.specs.Accounts.{loaded_rows, placed};
+ghost use Rattle.net_world.specs.Lines.{rows_after};
+ghost use Rattle.net_world.specs.Histories.{IsLegal, owner_of};
+ghost use Rattle.net_world.specs.World.{WorldOf, step, world_after};
+ghost use Rattle.net_settling.specs.Claims.{HoldsAndSettles};
 ghost use Rattle.fabric_book.specs.Accounts.{AreAccounts};
 ghost use Rattle.report.specs.Events.{IsReport, all_told, course_after, report_text};
 ghost use Rattle.report.specs.Retellings.{HasCome, IsNotNext, IsRetelling, told_in};
@@ -17,16 +17,16 @@ ghost use Rattle.report.specs.Retellings.{HasCome, IsNotNext, IsRetelling, told_
 use crate::reporter::Report;
 use crate::telling::{Telling, first_line};
 use an_base::event::{Event, Journal};
-use an_base::memory::OutOfMemory;
 use an_base::row::Row;
+use common_values::memory::OutOfMemory;
 use fabric_book::account::Account;
-use fabric_state::ending::Ending;
-use fabric_state::line::{Line, PlacedLine};
 use net_script::script::Script;
+use net_state::ending::Ending;
+use net_state::line::{Line, PlacedLine};
 use std::alloc::Global;
 use std::marker::Model;
 
-// To whom an event belongs: the worker of a switch, from 1, or the driver, 0.
+// Returns to whom an event belongs: the worker of a switch, from 1, or the driver, 0.
 fn owner_of(event: &Event) -> usize
     ensures { result ≡ owner_of event.now }
 {
@@ -40,7 +40,7 @@ fn owner_of(event: &Event) -> usize
     }
 }
 
-// What is left of an account that is being retold.
+// What is left of an account that is being printed.
 #[derive(Drop)]
 struct Left<'a> {
     lines: &'a [PlacedLine],
@@ -49,7 +49,7 @@ struct Left<'a> {
 
 impl<'a> Model for Left<'a> {
     ghost use Rattle.std.specs.Prelude.{map};
-    ghost use Rattle.fabric_world.specs.Accounts.{AccountOf};
+    ghost use Rattle.net_world.specs.Accounts.{AccountOf};
 
     ghost Value = { AccountOf };
 
@@ -57,7 +57,7 @@ impl<'a> Model for Left<'a> {
 }
 
 impl<'a> Left<'a> {
-    // All of an account.
+    // Returns all of an account.
     fn all(account: &'a Account) -> Self
         ensures { result ≡ told_in account.now }
     {
@@ -67,7 +67,7 @@ impl<'a> Left<'a> {
         }
     }
 
-    // The rows after an event: those of the next table after a load, and none after others.
+    // Returns the rows after an event: those of the next table after a load, and none after others.
     fn rows_after(&mut self, event: &Event) -> &'a [Row]
         ensures { (world : WorldOf) (more : List (List RowOf)) → self.old.rows ≡ loaded_rows world event.now ++ more
             → (result.now ≡ rows_after (step world event.now).fabric event.now)
@@ -83,7 +83,7 @@ impl<'a> Left<'a> {
         rows
     }
 
-    // The next line, if it is of the event at this place.
+    // Returns the next line, if it belongs to the event at this position.
     fn next_line(&mut self, event: u32) -> Option<&'a Line>
         ensures line { IfSome result (λ line. self.old ≡ record self.new {
           lines = record { event = event; line = line.now } ∷ self.new.lines;
@@ -99,7 +99,7 @@ impl<'a> Left<'a> {
         Some(&told.line)
     }
 
-    // The lines of the event that came last, with the rows after it.
+    // Prints the lines of the last event, with the rows after it.
     fn tell(
         &mut self,
         telling: &Telling,
@@ -123,7 +123,7 @@ impl<'a> Left<'a> {
     }
 }
 
-// A journal whose report is made of what each caller has told.
+// A journal whose report is made from what each caller has reported.
 #[derive(Drop)]
 struct Retelling<'a> {
     telling: Telling<'a>,
@@ -131,7 +131,7 @@ struct Retelling<'a> {
     text: Vec<u8>,
 }
 
-// All that each caller has told.
+// Returns all that each caller has reported.
 fn all_left(alloc: Global, accounts: &[Account]) -> Result<Vec<Left<'_>>, OutOfMemory>
     ensures { IfOk result (λ left. left.items ≡ map told_in accounts.now) }
 {
@@ -143,7 +143,7 @@ fn all_left(alloc: Global, accounts: &[Account]) -> Result<Vec<Left<'_>>, OutOfM
 }
 
 impl<'a> Retelling<'a> {
-    // At the beginning: the first line.
+    // Starts the report with its first line.
     fn begin(
         alloc: Global,
         script: &'a Script,
@@ -162,7 +162,7 @@ impl<'a> Retelling<'a> {
         })
     }
 
-    // The next event, with its lines.
+    // Prints the next event, with its lines.
     fn step(&mut self, event: &Event) -> Result<(), OutOfMemory>
         requires { (before events : List Event) × IsRetelling self.old.telling.script.now before (event.now ∷ events)
             self.old.telling.course self.old.left.items self.old.text.items }
@@ -178,7 +178,7 @@ impl<'a> Retelling<'a> {
         left.tell(&self.telling, rows, &mut self.text)
     }
 
-    // The events of a journal, and this end.
+    // Prints the events of a journal, and this end.
     fn tell(&mut self, journal: &Journal, end: &Ending) -> Result<(), OutOfMemory>
         requires legal { IsLegal self.old.telling.script.now journal.now end.now }
         requires first { IsRetelling self.old.telling.script.now [] journal.now
@@ -194,8 +194,14 @@ impl<'a> Retelling<'a> {
     }
 }
 
-/// The report of a legal journal with this end, of whose events each caller has told: the driver, and the worker of
-/// each switch in the order of the script.
+/// Returns the report of a legal journal with the end `end`, made from what each caller has reported of its own
+/// events: the driver, and the worker of each switch in the order of the script.
+///
+/// The caller must pass a journal of which all holds that is claimed of a lawful history, and the accounts of all
+/// its callers.
+///
+/// # Errors
+/// `OutOfMemory` if an allocation fails.
 pub fn retold(
     alloc: Global,
     script: &Script,

@@ -7,31 +7,31 @@ ghost use Rattle.std.specs.Fmt.{decimal};
 ghost use Rattle.an_base.specs.declared.event.Event.{Event};
 ghost use Rattle.net_script.specs.Scripts.{ScriptOf};
 ghost use Rattle.row_text.specs.Names.{life_text};
-ghost use Rattle.fabric_world.specs.Lines.{rows_after};
-ghost use Rattle.fabric_world.specs.Histories.{fabric_of};
+ghost use Rattle.net_world.specs.Lines.{rows_after};
+ghost use Rattle.net_world.specs.Histories.{fabric_of};
 ghost use Rattle.fabric_book.specs.Nets.{history_of};
 ghost use Rattle.report.specs.Retellings.{Comes, HasCome};
 ghost use Rattle.report.specs.Events.{all_told, course_after, deliver_words, drop_word, ending_words, has_line, host_text};
 ghost use Rattle.report.specs.Events.{line_of_end, loss_words, packet_words, peer_words, place_words, rows_in_use};
 ghost use Rattle.report.specs.Events.{rows_text, spaced, state_word, switch_text, told_text, told_words};
 ghost use Rattle.wire_set.specs.declared.side.Loss.TheVariants as loss;
-ghost use Rattle.fabric_state.specs.declared.ending.Ending.TheVariants as ending;
-ghost use Rattle.fabric_state.specs.declared.line.Line.TheVariants as told;
+ghost use Rattle.net_state.specs.declared.ending.Ending.TheVariants as ending;
+ghost use Rattle.net_state.specs.declared.line.Line.TheVariants as told;
 
 use crate::course::Course;
 use crate::listener::Listener;
 use an_base::event::Event;
 use an_base::life::{End, Life};
-use an_base::memory::OutOfMemory;
 use an_base::place::Place;
 use an_base::port::{Port, PortState};
 use an_base::row::Row;
+use common_values::memory::OutOfMemory;
 use fabric_book::net::Net;
-use fabric_state::ending::Ending;
-use fabric_state::line::Line;
 use host_traffic::hop::DropCause;
 use itoa::Buffer;
 use net_script::script::Script;
+use net_state::ending::Ending;
+use net_state::line::Line;
 use row_text::decimals::Decimals;
 use row_text::piece::push_life;
 use row_text::row::push_row_line;
@@ -64,7 +64,7 @@ fn push_number(text: &mut Vec<u8>, number: u64) -> Result<(), OutOfMemory>
     push_digits(text, number)
 }
 
-// The word for the state of a port.
+// Returns the word for the state of a port.
 fn state_word(state: PortState) -> &'static str
     ensures { result.now ≡ state_word state }
 {
@@ -78,7 +78,7 @@ fn state_word(state: PortState) -> &'static str
     }
 }
 
-// The word for why a packet was dropped.
+// Returns the word for why a packet was dropped.
 fn drop_word(cause: DropCause) -> &'static str
     ensures { result.now ≡ drop_word cause }
 {
@@ -92,7 +92,7 @@ fn drop_word(cause: DropCause) -> &'static str
     }
 }
 
-// Appends that there was no room for a frame: the blocks that it needs, and those that were free.
+// Appends that space ran out for a frame: the blocks that it needs, and those that were free.
 fn push_room(text: &mut Vec<u8>, need: u32, free: u32) -> Result<(), OutOfMemory>
     ensures { OnOk result (text.new.items ≡ text.old.items ++ spaced (loss_words (loss.NoRoom need free))) }
 {
@@ -122,28 +122,28 @@ fn push_drop(text: &mut Vec<u8>, cause: DropCause) -> Result<(), OutOfMemory>
     push_word(text, drop_word(cause).as_bytes())
 }
 
-// Whether an entry has rows.
+// Reports whether an entry has rows.
 fn has_rows(rows: &[Row], entry: u8) -> bool
     ensures { result ≡ list_any (λ row. row.entry == entry) rows.now }
 {
     rows.iter().any(|row| row.entry == entry)
 }
 
-// Whether the rows of an entry have a line: those of entry 0, and of each other entry that has some.
+// Reports whether the rows of an entry have a line: entry 0 has one, and each other entry that has rows.
 fn has_line(rows: &[Row], entry: u8) -> bool
     ensures { result ≡ has_line rows.now entry }
 {
     entry == 0 || has_rows(rows, entry)
 }
 
-/// The first line of a report.
+/// Returns the first line of a report.
 pub(crate) fn first_line(alloc: Global) -> Result<Vec<u8>, OutOfMemory>
     ensures { IfOk result (λ text. text.items ≡ codes "report 1\n") }
 {
     Ok(Vec::from_slice(alloc, b"report 1\n")?)
 }
 
-/// What the report of a journal is told with: the script, and how far its network has come.
+/// What a report is printed with: the script, and how far its network has come.
 #[derive(Drop)]
 pub(crate) struct Telling<'a> {
     alloc: Global,
@@ -153,7 +153,7 @@ pub(crate) struct Telling<'a> {
 }
 
 impl<'a> Telling<'a> {
-    /// At the beginning.
+    /// Creates what a report starts with.
     pub(crate) fn begin(alloc: Global, script: &'a Script) -> Result<Self, OutOfMemory>
         ensures { IfOk result (λ telling. HasCome telling.script.now telling.course script.now []) }
     {
@@ -165,14 +165,14 @@ impl<'a> Telling<'a> {
         })
     }
 
-    /// How far the network has come.
+    /// Returns how far the network has come.
     pub(crate) fn course(&self) -> &Course
         ensures { result.now ≡ self.now.course }
     {
         &self.course
     }
 
-    /// A lawful event comes.
+    /// Follows a lawful event.
     pub(crate) fn follow(&mut self, event: &Event)
         requires { (script : ScriptOf) × (history : List Event) × Comes script history event.now self.old.course }
         ensures script { self.new.script.now ≡ self.old.script.now }
@@ -192,7 +192,8 @@ impl<'a> Telling<'a> {
         Ok(())
     }
 
-    // The word for a life, if it is the first one of the switch at a place: the name there, which is found at once.
+    // Returns the word for a life, if it is the first one of the switch at an index: the name there, which is found
+    // without a search.
     fn first_word(&self, s: Place, life: Life) -> Option<&'a [u8]>
         ensures { IfSome result (λ word. word.now ≡ life_text self.now.script.now life) }
     {
@@ -203,7 +204,7 @@ impl<'a> Telling<'a> {
         Some(self.script.switch_names().get(usize::from(s)))
     }
 
-    // Appends the life of the switch at a place after a space.
+    // Appends the life of the switch at an index after a space.
     fn push_life_at(&self, text: &mut Vec<u8>, s: Place, life: Life) -> Result<(), OutOfMemory>
         ensures { OnOk result (text.new.items
             ≡ text.old.items ++ spaced (life_text self.now.script.now life ∷ [])) }
@@ -368,7 +369,7 @@ impl<'a> Telling<'a> {
         self.push_delivery(text, host)
     }
 
-    // Appends what is told of a port that changed its state.
+    // Appends the report of a port that changed its state.
     fn push_port(
         &self,
         text: &mut Vec<u8>,
@@ -385,7 +386,7 @@ impl<'a> Telling<'a> {
         self.push_peer(text, state, peer)
     }
 
-    // Appends what is told of a switch whose epochs are spent.
+    // Appends the report of a switch whose epochs are spent.
     fn push_spent(&self, text: &mut Vec<u8>, s: Place) -> Result<(), OutOfMemory>
         ensures { OnOk result (text.new.items ≡ text.old.items
             ++ spaced (told_words self.now.script.now self.now.course.lives (told.Spent s))) }
@@ -394,7 +395,7 @@ impl<'a> Telling<'a> {
         push_word(text, b"spent")
     }
 
-    // Appends what is told of a switch that finished an epoch.
+    // Appends the report of a switch that finished an epoch.
     fn push_finish(
         &self,
         text: &mut Vec<u8>,
@@ -414,7 +415,7 @@ impl<'a> Telling<'a> {
         push_number(text, u64::from(members))
     }
 
-    // Appends what is told of a frame that was lost.
+    // Appends the report of a frame that was lost.
     fn push_lost(
         &self,
         text: &mut Vec<u8>,
@@ -429,7 +430,7 @@ impl<'a> Telling<'a> {
         push_loss(text, why)
     }
 
-    // Appends what is told of a table that was loaded, but its rows.
+    // Appends the report of a table that was loaded, without its rows.
     fn push_load(
         &self,
         text: &mut Vec<u8>,
@@ -445,7 +446,7 @@ impl<'a> Telling<'a> {
         push_number(text, u64::from(number))
     }
 
-    // Appends what is told of a link that went down.
+    // Appends the report of a link that went down.
     fn push_cut(
         &self,
         text: &mut Vec<u8>,
@@ -461,7 +462,7 @@ impl<'a> Telling<'a> {
         push_number(text, u64::from(dropped))
     }
 
-    // Appends what is told of a switch that began its next life.
+    // Appends the report of a switch that began its next life.
     fn push_restarted(&self, text: &mut Vec<u8>, s: Place) -> Result<(), OutOfMemory>
         ensures { OnOk result (text.new.items ≡ text.old.items
             ++ spaced (told_words self.now.script.now self.now.course.lives (told.Restarted s))) }
@@ -470,7 +471,7 @@ impl<'a> Telling<'a> {
         self.push_switch(text, s)
     }
 
-    // Appends what is told of a packet that was sent.
+    // Appends the report of a packet that was sent.
     fn push_sent(
         &self,
         text: &mut Vec<u8>,
@@ -488,7 +489,7 @@ impl<'a> Telling<'a> {
         push_number(text, u64::from(address))
     }
 
-    // Appends what is told of a packet that was not sent.
+    // Appends the report of a packet that was not sent.
     fn push_unsent(
         &self,
         text: &mut Vec<u8>,
@@ -504,7 +505,7 @@ impl<'a> Telling<'a> {
         push_drop(text, why)
     }
 
-    // Appends what is told of a packet that was dropped on its way.
+    // Appends the report of a packet that was dropped on its way.
     fn push_fell(
         &self,
         text: &mut Vec<u8>,
@@ -519,7 +520,7 @@ impl<'a> Telling<'a> {
         push_drop(text, why)
     }
 
-    // Appends the words of what is told of a packet.
+    // Appends the words that report an event of a packet.
     fn push_told_of_packet(&self, text: &mut Vec<u8>, line: &Line) -> Result<(), OutOfMemory>
         ensures { OnOk result (text.new.items ≡ text.old.items
             ++ spaced (packet_words self.now.script.now self.now.course.lives line.now)) }
@@ -553,7 +554,7 @@ impl<'a> Telling<'a> {
         }
     }
 
-    // Appends the words of what is told.
+    // Appends the words that report an event.
     fn push_told(&self, text: &mut Vec<u8>, line: &Line) -> Result<(), OutOfMemory>
         ensures { OnOk result (text.new.items ≡ text.old.items
             ++ spaced (told_words self.now.script.now self.now.course.lives line.now)) }
@@ -618,7 +619,7 @@ impl<'a> Telling<'a> {
         self.push_table(text, life, rows)
     }
 
-    // Appends the rows that stand after a line.
+    // Appends the rows that follow a line.
     fn push_rows(&self, text: &mut Vec<u8>, line: &Line, rows: &[Row]) -> Result<(), OutOfMemory>
         ensures { OnOk result (text.new.items ≡ text.old.items
             ++ rows_text self.now.script.now self.now.course.lives rows.now line.now) }
@@ -706,7 +707,7 @@ impl<'a> Telling<'a> {
     }
 }
 
-// The rows after an event: those of the table in use after a load, and none after others.
+// Returns the rows after an event: those of the table in use after a load, and none after others.
 fn rows_after<'a>(net: &'a Net, event: &Event) -> &'a [Row]
     ensures { result.now ≡ rows_after (fabric_of (history_of net.now)) event.now }
 {
@@ -721,7 +722,7 @@ fn rows_after<'a>(net: &'a Net, event: &Event) -> &'a [Row]
 
 impl Listener for Telling<'_> {
     ghost use Rattle.std.specs.Prelude.{codes};
-    ghost use Rattle.fabric_world.specs.World.{world_after};
+    ghost use Rattle.net_world.specs.World.{world_after};
     ghost use Rattle.report.specs.Events.{course_after, event_text, line_of_end};
     ghost use Rattle.report.specs.Retellings.{HasCome};
 

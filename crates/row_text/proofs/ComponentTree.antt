@@ -16,7 +16,7 @@ use Rattle.topo_graph.specs.Topology.{Names, IsLink, nothing, entry_at, life_at,
 use Rattle.topo_graph.specs.Stands.{IsAfter, IsNextBelow, Stands}
 use Rattle.topo_graph.proofs.FarLemmas.{one_place, far_is_link, link_is_far}
 use Rattle.topo_graph.proofs.TreeLemmas.{places_le, stand_tree}
-use Rattle.an_base.proofs.PigeonLemmas.{pigeons}
+use Rattle.common_values.proofs.PigeonLemmas.{pigeons}
 
 -- the switch of the entry at a place
 abbrev member_at : (w : Wires) (r : ℕ) (es : List EntryOf) → IsComponent w r es → (i : ℕ) → i < length es → IsMember w r (entry_at es i)

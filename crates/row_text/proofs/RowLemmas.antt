@@ -6,9 +6,9 @@ use Rattle.std.proofs.lemmas.List.{map_push}
 use Rattle.std.proofs.lemmas.List.Elements.{filter-append}
 use Rattle.an_base.specs.Values.{LifeId}
 use Rattle.an_base.specs.Rows.{RowOf}
-use Rattle.an_base.proofs.ListLemmas.{places_more}
-use Rattle.text_lines.specs.Lines.{line_text}
-use Rattle.text_lines.proofs.FormTexts.{text_push, line_pieces}
+use Rattle.common_values.proofs.ListLemmas.{places_more}
+use Rattle.common_lines.specs.Lines.{line_text}
+use Rattle.common_lines.proofs.FormTexts.{text_push, line_pieces}
 use Rattle.net_script.specs.Scripts.{ScriptOf}
 use Rattle.row_text.specs.TableForms.{TableForm, table_words}
 use Rattle.row_text.specs.Names.{life_text}

@@ -25,21 +25,21 @@ exits_text (port ∷ ports) = decimal port ++ flat_map slashed ports
 abbrev pub pair_word : RowOf → List ℕ
 pair_word row = decimal row.to ++ (codes ":" ++ exits_text row.exits)
 
--- the rows of an entry
+-- the rows in `rows` that have `entry`
 abbrev pub rows_at : List RowOf → ℕ → List RowOf
 rows_at rows entry = filter (λ row. row.entry == entry) rows
 
--- the line of an entry of a switch: a pair for each row
+-- the line for `entry` of the switch of `life`: a pair for each row
 abbrev pub row_form : ScriptOf → LifeId → List RowOf → ℕ → TableForm
 row_form script life rows entry =
     RowLine (life_text script life) (decimal entry) (map pair_word (rows_at rows entry))
 
--- the lines of the table of the member at a place: one for each entry, 0 and the ports with a link
+-- the lines of the table of the member at index `place`: one for each entry, 0 and the ports with a link
 abbrev pub member_rows : ScriptOf → List EntryOf → ℕ → List RowOf → List TableForm
 member_rows script entries place rows =
     map (row_form script (life_at entries place) rows) (filter (is_entry entries place) (range_with_len 0 13))
 
--- the lines of the tables of the members from a place on
+-- the lines of the tables of the members, from index `place` on
 abbrev pub table_forms : ScriptOf → List EntryOf → ℕ → List TableOf → List TableForm
 table_forms script entries place [] = []
 table_forms script entries place (table ∷ tables) =

@@ -1,9 +1,9 @@
 use Rattle.std.specs.Prelude.{ℕ, List, [], ◌∷◌, codes}
-use Rattle.text_lines.specs.Lines.{forms_text_by}
+use Rattle.common_lines.specs.Lines.{forms_text_by}
 
 -- The forms of the lines of tables.
 
--- the forms of lines of tables, with the words in their fields; lines of the first two are passed over
+-- a line of tables, with the words in its fields; readers ignore lines of the first two forms
 pub data TableForm : Type 0 where
   ComponentLine : (more : List (List ℕ)) → TableForm
   MemberLine : (more : List (List ℕ)) → TableForm
@@ -11,7 +11,7 @@ pub data TableForm : Type 0 where
   RowLine : (name entry : List ℕ) (pairs : List (List ℕ)) → TableForm
   EndLine : TableForm
 
--- the words of a form
+-- the words of a line of this form
 abbrev pub table_words : TableForm → List (List ℕ)
 table_words (ComponentLine more) = codes "component" ∷ more
 table_words (MemberLine more) = codes "member" ∷ more

@@ -1,11 +1,11 @@
-//! The decimals of small numbers, made once.
+//! The numbers below 256 in decimal, made once.
 
 ghost use Rattle.std.specs.Prelude.{◌≡◌, ◌+◌, ◌≤◌, ◌++◌, IfOk, OnOk, vec_len, vec_capacity};
 ghost use Rattle.std.specs.Fmt.{decimal};
 ghost use Rattle.row_text.specs.Decimals.{AreDecimals};
 
 use crate::piece::push_bytes;
-use an_base::text::{Word, push_decimal};
+use common_values::text::{Word, push_decimal};
 use std::alloc::{AllocError, Global};
 
 // A number in decimal.
@@ -28,7 +28,7 @@ fn words_of(alloc: Global) -> Result<Vec<Word>, AllocError>
     Ok(words)
 }
 
-/// The numbers below 256 in decimal, made once, since a text has so many of them.
+/// The numbers below 256 in decimal, made once because a text has many of them.
 #[derive(Drop)]
 pub struct Decimals {
     words: Vec<Word>,
@@ -36,7 +36,10 @@ pub struct Decimals {
 }
 
 impl Decimals {
-    /// The numbers below 256.
+    /// Makes the numbers below 256 in decimal.
+    ///
+    /// # Errors
+    /// `AllocError` if an allocation fails.
     pub fn new(alloc: Global) -> Result<Self, AllocError>
         ensures { IfOk result (λ decimals. AreDecimals 256 decimals.words.items) }
     {
@@ -52,7 +55,10 @@ impl Decimals {
         self.words[usize::from(n)].as_bytes()
     }
 
-    /// Appends a number.
+    /// Appends `n` in decimal to `text`.
+    ///
+    /// # Errors
+    /// `AllocError` if the allocation fails; `text` is then unspecified.
     pub fn push(&self, text: &mut Vec<u8>, n: u8) -> Result<(), AllocError>
         ensures { OnOk result (text.new.items ≡ text.old.items ++ decimal n) }
     {
@@ -61,7 +67,9 @@ impl Decimals {
         Ok(())
     }
 
-    /// Appends a number. There is room for three digits, which it has at most.
+    /// Appends `n` in decimal to `text`, without allocating.
+    ///
+    /// The caller must have reserved three bytes, the most digits that `n` has.
     pub fn push_reserved(&self, text: &mut Vec<u8>, n: u8)
         requires { vec_len text.old + 3 ≤ vec_capacity text.old }
         ensures text { text.new.items ≡ text.old.items ++ decimal n }

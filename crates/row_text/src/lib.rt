@@ -1,8 +1,11 @@
-//! How switches and rows of routing tables stand in a text: by the names of a script.
+//! autonet, table texts: switch names and table rows as text.
 //!
-//! It stands on scripts, their wiring, and routing tables. Its contract: a life is appended as the name of its
-//! switch, with its boot after it if that is above 1, and a row as the line from which tables are read. The forms
-//! of the lines of tables stand here (`specs/TableForms`).
+//! A life is printed as the name that the script gives to its switch, followed by a point and the boot if that is
+//! above 1. A row is printed as the line from which `table_script` reads tables; the forms of these lines are
+//! defined here (`specs/TableForms`).
+//!
+//! It depends on scripts and routing tables. Its contract: each function appends exactly the text that its
+//! definition in `specs/` gives, unless an allocation fails.
 #![tactic(auto)]
 
 pub mod decimals;

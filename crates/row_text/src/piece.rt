@@ -1,17 +1,17 @@
-//! The names of switches and lives, appended to a text.
+//! Appends the names of switches and lives to a text.
 
 ghost use Rattle.std.specs.Prelude.{◌≡◌, ◌==◌, ◌+◌, ◌<◌, ◌≤◌, ◌++◌, length, position, OnOk, IfOk, IfSome, vec_capacity, vec_len};
 ghost use Rattle.row_text.specs.Names.{life_text, name_of, switch_name};
 
 use an_base::entry::Entry;
 use an_base::life::Life;
-use an_base::text::push_decimal;
+use common_values::text::push_decimal;
 use net_graph::wiring::SwitchAt;
+use net_names::names::Names;
 use net_script::script::Script;
 use std::alloc::{AllocError, Global};
-use text_lines::names::Names;
 
-/// The place of the switch with this identifier.
+/// Returns the index of the switch with identifier `uid`, if there is one.
 pub fn place_of(switches: &[SwitchAt], uid: u64) -> Option<usize>
     ensures { result ≡ position (λ s. s.uid == uid) switches.now }
 {
@@ -31,7 +31,7 @@ fn switch_name<'a>(names: &'a Names, switches: &[SwitchAt], uid: u64) -> &'a [u8
     names.get(s)
 }
 
-/// Appends bytes, for which there is room.
+/// Appends `bytes` to `text`, without allocating. The caller must have reserved the space.
 pub fn push_bytes(text: &mut Vec<u8>, bytes: &[u8])
     requires { vec_len text.old + length bytes.now ≤ vec_capacity text.old }
     ensures text { text.new.items ≡ text.old.items ++ bytes.now }
@@ -43,7 +43,10 @@ pub fn push_bytes(text: &mut Vec<u8>, bytes: &[u8])
     }
 }
 
-/// Appends a life: the name of its switch, and a boot above 1.
+/// Appends `life` to `text`: the name of its switch, then a point and the boot if that is above 1.
+///
+/// # Errors
+/// `AllocError` if an allocation fails; `text` is then unspecified.
 pub fn push_life(
     alloc: Global,
     text: &mut Vec<u8>,
@@ -61,7 +64,7 @@ pub fn push_life(
     Ok(())
 }
 
-// The place of a number in a list of numbers, if it is one of them.
+// Returns the index of `number` in `numbers`, if it is one of them.
 fn place_in(numbers: &[u8], number: u8) -> Option<usize>
     ensures place { result ≡ position (λ other. other == number) numbers.now }
     ensures range { IfSome result (λ place. place < length numbers.now) }
@@ -69,7 +72,12 @@ fn place_in(numbers: &[u8], number: u8) -> Option<usize>
     numbers.iter().position(|other| *other == number)
 }
 
-/// Appends the name of the member that has a number, and nothing if none has. The members have these numbers.
+/// Appends the name of the member that has `number`, and nothing if no member has it.
+///
+/// The caller must pass one number for each entry, in the same order.
+///
+/// # Errors
+/// `AllocError` if an allocation fails; `text` is then unspecified.
 pub fn push_name(
     alloc: Global,
     text: &mut Vec<u8>,
@@ -88,7 +96,10 @@ pub fn push_name(
     push_life(alloc, text, script, entry.life)
 }
 
-/// The word for a life.
+/// Returns the printed form of `life`.
+///
+/// # Errors
+/// `AllocError` if an allocation fails.
 pub fn life_word(alloc: Global, script: &Script, life: Life) -> Result<Vec<u8>, AllocError>
     ensures { IfOk result (λ word. word.items ≡ life_text script.now life) }
 {
@@ -97,17 +108,20 @@ pub fn life_word(alloc: Global, script: &Script, life: Life) -> Result<Vec<u8>, 
     Ok(word)
 }
 
-/// The lives of a script's switches as they are printed, and the memory that their words take.
+/// What is needed to print the lives of a script's switches: the script, and an allocator.
 #[derive(Clone, Copy, Drop)]
 pub struct Lives<'a> {
-    /// The memory.
+    /// The allocator of the printed words.
     pub alloc: Global,
-    /// The script.
+    /// The script that names the switches.
     pub script: &'a Script,
 }
 
 impl Lives<'_> {
-    /// The word for a life.
+    /// Returns the printed form of `life`.
+    ///
+    /// # Errors
+    /// `AllocError` if an allocation fails.
     pub fn word(&self, life: Life) -> Result<Vec<u8>, AllocError>
         ensures { IfOk result (λ word. word.items ≡ life_text self.now.script.now life) }
     {

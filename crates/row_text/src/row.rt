@@ -1,8 +1,8 @@
-//! The lines of the rows of a table.
+//! Appends the rows of a routing table to a text.
 
 ghost use Rattle.std.specs.Prelude.{◌≡◌, ◌+◌, ◌*◌, ◌<◌, ◌≤◌, ◌++◌, length, OnOk, vec_len, vec_capacity};
 ghost use Rattle.std.specs.List.{flat_map};
-ghost use Rattle.text_lines.specs.Lines.{line_text};
+ghost use Rattle.common_lines.specs.Lines.{line_text};
 ghost use Rattle.row_text.specs.TableForms.{table_words};
 ghost use Rattle.row_text.specs.Rows.{exits_text, slashed, row_form, member_rows, rows_at};
 ghost use Rattle.row_text.specs.Pieces.{spaced_pair};
@@ -17,7 +17,7 @@ use std::alloc::{AllocError, Global};
 use table_build::exit::is_entry;
 use topo_graph::graph::Graph;
 
-// Appends ports, each after a slash. There is room for four bytes of each.
+// Appends ports, each after a slash. The caller has reserved four bytes for each.
 fn push_ports(text: &mut Vec<u8>, decimals: &Decimals, ports: &[u8])
     requires { vec_len text.old + 4 * length ports.now ≤ vec_capacity text.old }
     ensures { text.new.items ≡ text.old.items ++ flat_map slashed ports.now }
@@ -28,8 +28,8 @@ fn push_ports(text: &mut Vec<u8>, decimals: &Decimals, ports: &[u8])
     }
 }
 
-// Appends exits, joined by a slash, or a dash if there are none. There is room for four bytes of each, and
-// one more.
+// Appends exits (egress ports) joined by slashes, or a dash if there are none. The caller has reserved four bytes
+// for each, and one more.
 #[tactic(auto, unfolding(crate::specs::Rows::exits_text))]
 fn push_exits(text: &mut Vec<u8>, decimals: &Decimals, exits: &[u8])
     requires { vec_len text.old + 4 * length exits.now + 1 ≤ vec_capacity text.old }
@@ -44,7 +44,7 @@ fn push_exits(text: &mut Vec<u8>, decimals: &Decimals, exits: &[u8])
     }
 }
 
-// Appends a row after a space: the number of the target, and the exits.
+// Appends a row after a space: the number of the target switch, a colon and the exits.
 #[tactic(auto, unfolding(crate::specs::Pieces::spaced_pair))]
 fn push_row(text: &mut Vec<u8>, decimals: &Decimals, row: &Row) -> Result<(), AllocError>
     ensures { OnOk result (text.new.items ≡ text.old.items ++ spaced_pair row.now) }
@@ -59,7 +59,7 @@ fn push_row(text: &mut Vec<u8>, decimals: &Decimals, row: &Row) -> Result<(), Al
     Ok(())
 }
 
-// Appends the rows of an entry.
+// Appends the rows of one entry (an ingress port, or 0).
 fn push_rows(
     text: &mut Vec<u8>,
     decimals: &Decimals,
@@ -76,7 +76,10 @@ fn push_rows(
     Ok(())
 }
 
-/// Appends the line of an entry of a switch.
+/// Appends the line for `entry` of the switch of `life`: those of `rows` that have this entry.
+///
+/// # Errors
+/// `AllocError` if an allocation fails; `text` is then unspecified.
 pub fn push_row_line(
     alloc: Global,
     text: &mut Vec<u8>,
@@ -98,8 +101,13 @@ pub fn push_row_line(
     Ok(())
 }
 
-/// Appends the lines of the table of the member at a place: one for each entry, 0 and the ports with
-/// a link, with the number of each other member and the exits towards it.
+/// Appends the table of member `x` of `graph`: a line for each entry, 0 and the ports with a link.
+///
+/// A line has the rows of the entry, each with a target's number and the exits towards it. The caller
+/// must pass an `x` below the number of members.
+///
+/// # Errors
+/// `AllocError` if an allocation fails; `text` is then unspecified.
 pub fn push_row_lines(
     lives: &Lives,
     text: &mut Vec<u8>,

@@ -13,7 +13,7 @@ use Rattle.net_graph.specs.declared.wiring.SwitchAt.{SwitchAt}
 use Rattle.net_graph.specs.declared.wiring.LinkAt.{LinkAt}
 use Rattle.net_graph.specs.declared.wiring.HostOn.{HostOn}
 use Rattle.net_graph.specs.Wires.{IsSwitch, IsLink, IsHost, uids, used_ports, link_ends, a_end, b_end, host_end}
-use Rattle.an_base.proofs.PairLemmas.{AllPairs-front}
+use Rattle.common_values.proofs.PairLemmas.{AllPairs-front}
 use Rattle.net_script.specs.declared.command.Command.{Command}
 use Rattle.net_script.specs.declared.command.LinkChange.{LinkChange}
 use Rattle.net_script.specs.declared.command.WireChange.{WireChange}
@@ -26,7 +26,8 @@ use Rattle.net_script.specs.declared.setting.TheConstants.{DEFAULT_TICKS, DEFAUL
 use Rattle.net_script.specs.declared.setting.Setting.{Setting}
 use Rattle.net_script.specs.declared.setting.Setting.TheVariants.{Ticks, Events, Blocks, Epoch, Pace}
 use Rattle.net_script.specs.declared.setting.Came.{Came}
-use Rattle.text_lines.specs.Words.{IsName, hex_text, number_value}
+use Rattle.common_lines.specs.Words.{hex_text, number_value}
+use Rattle.net_names.specs.Words.{IsName}
 use Rattle.net_script.specs.Settings.{least_of, most_of, has_come, with_come, none_came, setting_words}
 use Rattle.net_script.specs.Commands.{IsCommand, IsUsedPort, IsWireChange, is_restart, last_time, link_word, link_event, wire_word, wire_event, most_count}
 use Rattle.net_script.specs.Scripts.{ScriptOf, IsScript, IsPace, CanAddSwitch, CanAddLink, CanAddHost, names_of, restarts_of, empty_script, with_switch, with_link, with_host, with_command, with_setting}
@@ -37,12 +38,13 @@ use Rattle.net_script.specs.Texts.{Adds, Leads, IsText}
 use Rattle.net_script.proofs.TextLemmas.{AddsRow}
 use Rattle.script_text.specs.Canonical.{setting_form, pace_form, routes_form, setting_forms, had_word, switch_form, link_form, host_form, command_form, event_form, forms_of, canonical_text}
 use Rattle.script_text.proofs.ChainLemmas.{apart_back}
-use Rattle.text_lines.proofs.SpellLemmas.{IsWord, name_word, decimal_word, decimal_value, uid_word, line_good, line_words, lines_of-text}
+use Rattle.common_lines.proofs.SpellLemmas.{IsWord, decimal_word, decimal_value, line_good, line_words, lines_of-text}
+use Rattle.net_names.proofs.WordLemmas.{name_word, uid_word}
 use Rattle.script_text.proofs.GoodLemmas.{AreNames, number_good, switch_good, switch_is, link_good, link_is, host_good, host_is, link_change_good, wire_change_good, send_good, restart_good, link_event_is, wire_event_is, send_event_is, restart_event_is}
-use Rattle.text_lines.proofs.FaultLemmas.{unless_good, first_good}
+use Rattle.common_lines.proofs.FaultLemmas.{unless_good, first_good}
 use Rattle.net_script.proofs.ScriptLemmas.{last_time_is, restarts_push}
 use Rattle.script_text.proofs.ChainLemmas.{Chain, Chain-append, Chain-leads, Chain-words, Reaches, Reaches-all, IsStep, apart_before, line_of}
-use Rattle.text_lines.proofs.SpellLemmas.{fixed_word, words_cons, words_nil}
+use Rattle.common_lines.proofs.SpellLemmas.{fixed_word, words_cons, words_nil}
 
 -- what holds of all holds of one among them
 all_here : {X : Type 0} (P : X → Type 0) (xs ys : List X) (x : X) → All P (xs ++ x ∷ ys) → P x

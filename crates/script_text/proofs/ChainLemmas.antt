@@ -12,8 +12,8 @@ use Rattle.net_script.specs.Scripts.{ScriptOf}
 use Rattle.net_script.specs.Rules.{cause_of, with_form}
 use Rattle.net_script.specs.Texts.{AddsWords, Adds, Leads}
 use Rattle.net_script.proofs.TextLemmas.{AddsRow}
-use Rattle.an_base.proofs.ListLemmas.{AllPairs-tail}
-use Rattle.text_lines.proofs.SpellLemmas.{IsWord, line_good, line_words}
+use Rattle.common_values.proofs.ListLemmas.{AllPairs-tail}
+use Rattle.common_lines.proofs.SpellLemmas.{IsWord, line_good, line_words}
 
 -- a line of this form is printed words, and nothing is wrong with it after d
 pub record IsGood (d : Draft) (form : Form) : Type 0 where

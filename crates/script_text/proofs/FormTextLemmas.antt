@@ -1,6 +1,6 @@
 use Rattle.std.proofs.Common.{◌≡◌, ◌∙◌, sym, ap, ℕ, List, [], ◌∷◌, ◌++◌, append-nil}
-use Rattle.text_lines.specs.Lines.{line_text}
-use Rattle.text_lines.proofs.FormTexts.{go_on}
+use Rattle.common_lines.specs.Lines.{line_text}
+use Rattle.common_lines.proofs.FormTexts.{go_on}
 use Rattle.net_script.specs.Forms.{form_words, End, header_words}
 use Rattle.net_script.specs.Scripts.{ScriptOf}
 use Rattle.script_text.specs.Canonical.{forms_text, setting_forms, switch_forms, link_forms, host_forms, command_forms, forms_of, canonical_text}

@@ -14,17 +14,19 @@ use Rattle.net_script.specs.declared.cause.ScriptCause.{ScriptCause}
 use Rattle.net_script.specs.declared.cause.ScriptCause.TheVariants.{BadNumber, BadName, NameTwice, NoSuchName, PortRange, PortUsed, TooMany, TimesFall, NoLink}
 use Rattle.net_script.specs.declared.command.LinkChange.{LinkChange}
 use Rattle.net_script.specs.declared.command.WireChange.{WireChange}
-use Rattle.text_lines.specs.Words.{IsName, is_name, is_number, number_value, hex_text}
-use Rattle.text_lines.specs.Faults.{unless}
+use Rattle.common_lines.specs.Words.{is_number, number_value, hex_text}
+use Rattle.net_names.specs.Words.{IsName, is_name}
+use Rattle.common_lines.specs.Faults.{unless}
 use Rattle.net_script.specs.Commands.{IsPort, IsUsedPort, IsWireChange, is_used, is_linked, last_time, link_event, wire_event, most_count}
-use Rattle.text_lines.specs.Names.{place_of}
+use Rattle.net_names.specs.Names.{place_of}
 use Rattle.net_script.specs.Scripts.{ScriptOf, IsNewName, CanAddSwitch, CanAddLink, CanAddHost, lives_of}
 use Rattle.net_script.specs.Rules.{place, is_taken, number_cause, port_cause, new_name_cause, new_uid_cause, known_cause, had_cause, had_of, time_cause, lives_cause, commands_cause, switch_of, link_of, host_of, link_command, wire_command, send_command, restart_command, is_free, switch_cause, link_cause, host_cause, link_change_cause, wire_change_cause, send_cause, restart_cause}
 use Rattle.script_text.specs.Canonical.{had_word}
 use Rattle.net_script.proofs.FieldLemmas.{uid_good}
-use Rattle.text_lines.proofs.NameLemmas.{place_none, place_at}
-use Rattle.text_lines.proofs.SpellLemmas.{decimal_number, decimal_value, uid_is, uid_value_is, decimal_good, le_test, ge_test, lt_test}
-use Rattle.text_lines.proofs.FaultLemmas.{unless_good, first_good}
+use Rattle.net_names.proofs.NameLemmas.{place_none, place_at}
+use Rattle.common_lines.proofs.SpellLemmas.{decimal_number, decimal_value, decimal_good, le_test, ge_test, lt_test}
+use Rattle.net_names.proofs.WordLemmas.{uid_is, uid_value_is}
+use Rattle.common_lines.proofs.FaultLemmas.{unless_good, first_good}
 
 -- numbers and ports
 pub number_good : (least most n : ℕ) → n < 2 ^ 64 → least ≤ n → n ≤ most → number_cause least most (decimal n) ≡ None

@@ -14,32 +14,32 @@ use Rattle.net_script.specs.declared.command.WireChange.TheVariants as wire
 use Rattle.net_script.specs.declared.setting.TheConstants.{DEFAULT_TICKS, DEFAULT_EVENTS, DEFAULT_BLOCKS}
 use Rattle.net_script.specs.declared.setting.Setting.{Setting}
 use Rattle.net_script.specs.declared.setting.Setting.TheVariants.{Ticks, Events, Blocks, Epoch, Pace}
-use Rattle.text_lines.specs.Words.{hex_text}
-use Rattle.text_lines.specs.Lines.{lines_text, forms_text_by}
+use Rattle.common_lines.specs.Words.{hex_text}
+use Rattle.common_lines.specs.Lines.{lines_text, forms_text_by}
 use Rattle.net_script.specs.Scripts.{ScriptOf}
 use Rattle.net_script.specs.Forms.{Form, Number, AnyRoutes, SwitchLine, LinkLine, HostLine, ChangesLink}
 use Rattle.net_script.specs.Forms.{ChangesWire, Sends, Restarts, End, form_words, header_words}
 
 -- The canonical text of a script.
 
--- the text of lines
+-- the text of a list of forms, one on each line
 abbrev pub forms_text : List Form → List ℕ
 forms_text = forms_text_by form_words
 
--- a setting that differs from its default
+-- the line that sets `setting`, if `number` differs from `default`
 abbrev pub setting_form : Setting → (number default : ℕ) → List Form
 setting_form setting number default = if number == default then [] else Number setting (decimal number) ∷ []
 
--- the pace, if there is one
+-- the line that sets the pace, if there is one
 abbrev pub pace_form : Option ℕ → List Form
 pace_form None = []
 pace_form (Some number) = Number Pace (decimal number) ∷ []
 
--- all legal routes
+-- the line that allows all legal routes, if they are allowed
 abbrev pub routes_form : Bool → List Form
 routes_form any = if any then AnyRoutes ∷ [] else []
 
--- the settings that differ from the default, in order
+-- the lines of the settings that differ from their defaults, in order
 abbrev pub setting_forms : ScriptOf → List Form
 setting_forms script =
     setting_form Ticks script.limits.ticks DEFAULT_TICKS
@@ -47,11 +47,11 @@ setting_forms script =
     ++ (setting_form Blocks script.limits.blocks DEFAULT_BLOCKS
     ++ (setting_form Epoch script.epoch 0 ++ (pace_form script.pace ++ routes_form script.any_routes))))
 
--- the number that a switch had last, if it is not 1
+-- the word for the number that a switch had last, if it is not 1
 abbrev pub had_word : ℕ → Option (List ℕ)
 had_word number = if number == 1 then None else Some (decimal number)
 
--- the lines of a switch, a link and a host, in which names stand for places
+-- the lines of a switch, a link and a host, with names instead of indices
 abbrev pub switch_form : List ℕ × SwitchAt → Form
 switch_form (name, added) = SwitchLine name (hex_text 12 added.uid) (had_word added.had)
 
@@ -87,7 +87,7 @@ abbrev pub command_form : ScriptOf → Command → Form
 command_form script command =
     event_form script.switch_names script.names_of_hosts (decimal command.time) command.event
 
--- the switches, the links, the hosts and the commands, each in their order
+-- the lines of the switches, the links, the hosts and the commands, each in order
 abbrev pub switch_forms : ScriptOf → List Form
 switch_forms script = map switch_form (zip script.switch_names script.wires.switches)
 
@@ -111,6 +111,6 @@ forms_of script =
 unfoldable pub canonical_text : ScriptOf → List ℕ
 canonical_text script = lines_text (header_words ∷ map form_words (forms_of script))
 
--- numbers, each after a space, which a private function alone cites
+-- numbers, each after a space; only a private function cites this
 abbrev pub spaced_numbers : List ℕ → List ℕ
 spaced_numbers numbers = flat_map (λ word. 32 ∷ word) (map decimal numbers)

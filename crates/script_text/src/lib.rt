@@ -1,8 +1,7 @@
-//! The canonical text of a script.
+//! autonet, files: printer of scripts.
 //!
-//! It stands on `an_base`, `net_graph`, `text_lines` and `net_script`. Its contract: `printer::print`
-//! gives the canonical text of a script, which is a text that `net_script::reader::read` answers with
-//! that script.
+//! It depends on `net_script`. Its contract: `printer::print` returns the canonical text of a script, which
+//! `net_script::reader::read` parses as that script.
 #![tactic(auto)]
 
 pub mod printer;

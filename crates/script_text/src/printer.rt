@@ -1,7 +1,7 @@
 //! The printer of scripts.
 
 ghost use Rattle.std.specs.Prelude.{◌≡◌, ◌<◌, ◌++◌, [], ◌∷◌, codes, decimal, length, map, OnOk, IfOk, slice_index_or};
-ghost use Rattle.text_lines.specs.Lines.{line_text};
+ghost use Rattle.common_lines.specs.Lines.{line_text};
 ghost use Rattle.net_script.specs.Forms.{form_words};
 ghost use Rattle.net_script.specs.Scripts.{IsScript};
 ghost use Rattle.net_script.specs.Texts.{IsText};
@@ -9,20 +9,26 @@ ghost use Rattle.net_script.specs.Commands.{IsCommand};
 ghost use Rattle.script_text.specs.Canonical.{canonical_text, setting_forms, setting_form, pace_form, routes_form, switch_form, switch_forms, link_form, link_forms, host_form, host_forms, command_form, command_forms, forms_text, spaced_numbers};
 
 use an_base::event::Event;
-use an_base::memory::OutOfMemory;
 use an_base::place::Place;
+use common_lines::spelling::push_line;
+use common_values::memory::OutOfMemory;
 use itoa::Buffer;
 use net_graph::wiring::{HostOn, LinkAt, SwitchAt};
+use net_names::names::Names;
+use net_names::spelling::identifier;
 use net_script::command::Command;
 use net_script::script::Script;
 use net_script::setting::{DEFAULT_BLOCKS, DEFAULT_EVENTS, DEFAULT_TICKS, Setting};
 use std::alloc::Global;
-use text_lines::names::Names;
-use text_lines::spelling::{identifier, push_line};
 
-/// The canonical text of a script: the first line; the settings that differ from their defaults, in
-/// the order `limit ticks`, `limit events`, `limit blocks`, `epoch`, `pace`, `routes any`; the
-/// switches, the links, the hosts and the commands, each in their order; and the last line.
+/// Returns the canonical text of `script`.
+///
+/// It has the first line; the settings that differ from their defaults, in the order `limit ticks`,
+/// `limit events`, `limit blocks`, `epoch`, `pace`, `routes any`; the switches, links, hosts and
+/// commands, each in order; and the last line.
+///
+/// # Errors
+/// `OutOfMemory` if an allocation fails.
 pub fn print(alloc: Global, script: &Script) -> Result<Vec<u8>, OutOfMemory>
     ensures canonical { IfOk result (λ text. text.items ≡ canonical_text script.now) }
     ensures text { IfOk result (λ text. IsText text.items script.now) }
@@ -233,8 +239,12 @@ fn push_time(text: &mut Vec<u8>, time: u32) -> Result<(), OutOfMemory>
     Ok(())
 }
 
-/// Appends a word, the name of a switch and numbers, and ends the line. If no memory is found nothing is
-/// said of the text.
+/// Appends `word`, the name of the switch `s` and `numbers`, and ends the line.
+///
+/// The caller must pass the index of a switch with a name.
+///
+/// # Errors
+/// `OutOfMemory` if an allocation fails. The contract then says nothing about `text`.
 pub fn push_at(
     text: &mut Vec<u8>,
     names: &Names,
@@ -265,8 +275,12 @@ fn push_numbers(text: &mut Vec<u8>, numbers: &[u32]) -> Result<(), OutOfMemory>
     Ok(())
 }
 
-/// Appends `send`, the name of the host that sends and that of the host to which it does, which may be
-/// the same, and ends the line. If no memory is found nothing is said of the text.
+/// Appends `send` and the names of the hosts `host` and `to`, and ends the line.
+///
+/// The caller must pass the indices of hosts with names; they can be the same.
+///
+/// # Errors
+/// `OutOfMemory` if an allocation fails. The contract then says nothing about `text`.
 pub fn push_send(text: &mut Vec<u8>, hosts: &Names, host: u16, to: u16) -> Result<(), OutOfMemory>
     requires host { host < length hosts.now }
     requires to { to < length hosts.now }

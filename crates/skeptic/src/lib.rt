@@ -1,7 +1,9 @@
-//! A skeptic holds back what failed often: each failure doubles how many good samples in a row it asks
-//! for, up to 128, and 64 good samples in a row halve it.
+//! autonet, switch: hold-down with exponential back-off for flapping links.
 //!
-//! It stands on std alone. Its contract: level and run are those of the definition after each call.
+//! A skeptic counts failures and good samples. Each failure doubles the number of good samples in a row that it
+//! requires, up to 128, and 64 good samples in a row halve it.
+//!
+//! It depends on no other crate. Its contract: after each call, level and count are as the definition says.
 #![tactic(auto)]
 
 ghost use Rattle.std.specs.Prelude.{◌≡◌, ◌≤◌};
@@ -12,10 +14,10 @@ use std::marker::Model;
 /// The highest level.
 pub const MOST_LEVEL: u8 = 7;
 
-/// How many good samples in a row lower the level by one.
+/// The number of good samples in a row that lower the level by one.
 pub const FORGIVE_AFTER: u8 = 64;
 
-/// A level, 0 to 7, and how many good samples came in a row.
+/// A hold-down level, 0 to 7, and the number of good samples in a row.
 #[derive(Clone, Copy, PartialEq, Eq)]
 pub struct Skeptic {
     level: u8,
@@ -36,14 +38,14 @@ impl Model for Skeptic {
 }
 
 impl Skeptic {
-    /// Level 0, and no good samples.
+    /// Creates a skeptic at level 0, without good samples.
     pub const fn new() -> Self
         ensures { result ≡ record { level = 0; run = 0 } }
     {
         Skeptic { level: 0, run: 0 }
     }
 
-    /// How many good samples in a row are asked for: 2^level, 1 to 128.
+    /// Returns the number of good samples in a row that are required: 2^level, 1 to 128.
     pub fn hold(&self) -> u32
         ensures hold { result ≡ hold self.now }
         ensures least { 1 ≤ result }
@@ -52,7 +54,7 @@ impl Skeptic {
         1 << self.level
     }
 
-    /// A failure: the level rises by one, up to 7, and the good samples begin anew.
+    /// Records a failure: raises the level by one, up to 7, and restarts the count of good samples.
     pub fn fail(&mut self)
         ensures { self.new ≡ failed self.old }
     {
@@ -60,7 +62,9 @@ impl Skeptic {
         self.run = 0;
     }
 
-    /// A good sample. The 64th in a row lowers the level by one, not below 0, and they begin anew.
+    /// Records a good sample.
+    ///
+    /// The 64th in a row lowers the level by one, not below 0, and restarts the count.
     pub fn good(&mut self)
         ensures { self.new ≡ praised self.old }
     {
@@ -72,8 +76,9 @@ impl Skeptic {
         }
     }
 
-    /// A good sample while holding back, and whether it is the last that is asked for; then they
-    /// begin anew.
+    /// Records a good sample during hold-down, and reports whether it is the last one required.
+    ///
+    /// If it is, the count restarts.
     pub fn dwell(&mut self) -> bool
         ensures over { result ≡ is_over self.old }
         ensures after { self.new ≡ dwelt self.old }
@@ -83,7 +88,7 @@ impl Skeptic {
         is_over
     }
 
-    /// The good samples begin anew; the level stays.
+    /// Restarts the count of good samples, without changing the level.
     pub fn clear(&mut self)
         ensures { self.new ≡ cleared self.old }
     {

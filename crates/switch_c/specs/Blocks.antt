@@ -7,7 +7,7 @@ use Rattle.std.specs.contracts.impls.GlobalAllocator.TheImpl.{ghosts}
 use Rattle.switch_c.specs.contracts.instance.Instance.{the_row}
 use Rattle.switch_c.specs.declared.instance.Instance.{Instance}
 
--- an instance at an address, with the right to free its block; or nothing
+-- an instance is at an address, with the right to free its block; or nothing is owned
 abbrev pub holds : Ptr → Option Instance → Fml
 holds at None = ftrue
 holds at (Some instance) =

@@ -1,4 +1,4 @@
--- The numbers by which C knows what came of a call.
+-- The numbers of the return codes in C.
 use Rattle.std.specs.Prelude.{ℕ}
 use Rattle.switch_c.specs.declared.status.Status.{Status}
 use Rattle.switch_c.specs.declared.status.Status.TheVariants.{Done, Argument, OutOfMemory, Spent, Over, NotDue, NotStarted, Started, NoMore, Room}

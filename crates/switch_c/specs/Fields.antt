@@ -1,4 +1,4 @@
--- Each byte of each field is the place of the field in its struct, from 1.
+-- Each byte of each field is the index of the field in its struct, from 1.
 
 use Rattle.std.specs.Prelude.{ℕ, ◌*◌}
 use Rattle.switch_c.specs.declared.shown.Shown.{Shown}
@@ -7,7 +7,7 @@ use Rattle.switch_c.specs.declared.shown.RowShown.{RowShown}
 use Rattle.switch_c.specs.declared.shown.MemberShown.{MemberShown}
 use Rattle.switch_c.specs.declared.shown.FrameShown.{FrameShown}
 
--- the number of eight, of four and of two bytes that are all this one
+-- the number with eight, with four and with two bytes of this value
 abbrev pub eight : ℕ → ℕ
 eight byte = byte * 72340172838076673
 

@@ -22,18 +22,19 @@ use Rattle.switch_c.specs.Calls.{is_port}
 abbrev pub flag_of : Bool → ℕ
 flag_of is = if is then 1 else 0
 
--- how many members it has finished with
+-- the number of members that the switch has finished with
 abbrev pub member_count : Option TopoOf → ℕ
 member_count topo = option_map_or (λ it. length it.entries) topo 0
 
--- the epoch of the table that it loaded last, and its number in it; 0 before the first
+-- the epoch of the table that was loaded last, and the short address of the switch in it; 0 before
+-- the first table
 abbrev pub table_epoch_of : Instance → ℕ
 table_epoch_of instance = option_map_or (λ it. it.epoch) instance.loaded 0
 
 abbrev pub number_of : Instance → ℕ
 number_of instance = option_map_or (λ it. it.table.number) instance.loaded 0
 
--- what a switch shows of itself
+-- `shown` is what the switch of `instance` shows of itself
 pub record IsShown (instance : Instance) (shown : Shown) : Type 0 where
   pub epoch : (switch : SwitchOf) → StandsFor instance.switch switch → shown.epoch ≡ switch.epoch
   pub table_epoch : shown.table_epoch ≡ table_epoch_of instance
@@ -50,12 +51,12 @@ pub record IsShown (instance : Instance) (shown : Shown) : Type 0 where
   pub noframe : shown.noframe ≡ flag_of instance.out.noframe
   pub lost : shown.lost ≡ flag_of instance.lost
 
--- the call is done, and this is what C sees of the switch
+-- the call is done, and `shown` is what C sees of the switch
 pub record Shows (shown : Shown) (instance : Instance) (status : Status) : Type 0 where
   pub done : status ≡ Done
   pub is_shown : IsShown instance shown
 
--- the number by which C knows a state
+-- the number of a port state in C
 abbrev pub state_of : PortState → ℕ
 state_of state.Dead = 0
 state_of state.Checking = 1
@@ -64,18 +65,18 @@ state_of state.Who = 3
 state_of state.Loop = 4
 state_of state.Good = 5
 
--- what it takes the other end of a port to be; zeros if it knows none
+-- what a switch takes the other end of a port to be; zeros if it knows none
 abbrev pub IsPeerShown : Option EndId → PortShown → Type 0
 IsPeerShown None shown = (shown.uid ≡ 0) × ((shown.boot ≡ 0) × (shown.port ≡ 0))
 IsPeerShown (Some peer) shown =
     (shown.uid ≡ peer.life.uid) × ((shown.boot ≡ peer.life.boot) × (shown.port ≡ peer.port))
 
--- the number of its state, and the other end
+-- the number of the port's state, and the other end
 pub record IsPortShown (view : PortViewOf) (shown : PortShown) : Type 0 where
   pub state_is : shown.state ≡ state_of view.state
   pub peer : IsPeerShown view.peer shown
 
--- it is told of a port
+-- C asks for a port
 pub record AsksPort (port : ℕ) (shown told : PortShown) (instance : Instance) (status : Status) : Type 0 where
   pub argument : is_port port ≡ false → (status ≡ Argument) × (told ≡ shown)
   pub done : is_port port ≡ true → status ≡ Done
@@ -89,23 +90,23 @@ pub record IsRowShown (row : RowOf) (shown : RowShown) : Type 0 where
   pub entry : shown.entry ≡ row.entry
   pub to : shown.to ≡ row.to
 
--- the row at a place of the table that was loaded last
+-- the row at an index of the table that was loaded last
 abbrev pub row_at : Instance → ℕ → Option RowOf
 row_at instance place = option_map_or (λ it. slice_get it.table.rows place) instance.loaded None
 
--- it is told of that row; if there is none, nothing is told
+-- C asks for the row at the index `place`; if there is none, nothing is written
 pub record AsksRow (place : ℕ) (shown told : RowShown) (instance : Instance) (status : Status) : Type 0 where
   pub none : row_at instance place ≡ None → (status ≡ NoMore) × (told ≡ shown)
   pub some : (row : RowOf) → row_at instance place ≡ Some row → (status ≡ Done) × IsRowShown row told
 
--- the member at a place of what it has finished with, and its number
+-- the member at an index of what the switch has finished with, and its short address
 abbrev pub entry_at : SwitchOf → ℕ → Option EntryOf
 entry_at switch place = option_map_or (λ it. slice_get it.entries place) (finish_of switch) None
 
 abbrev pub number_at : SwitchOf → ℕ → Option ℕ
 number_at switch place = option_map_or (λ it. slice_get it.numbers place) (finish_of switch) None
 
--- its identifier, its boot and its number
+-- the identifier, the boot and the short address of the member at the index `place`
 pub record IsMemberShown (switch : SwitchOf) (place : ℕ) (shown : MemberShown) : Type 0 where
   pub entry : EntryOf
   pub at : entry_at switch place ≡ Some entry
@@ -113,7 +114,7 @@ pub record IsMemberShown (switch : SwitchOf) (place : ℕ) (shown : MemberShown)
   pub boot : shown.boot ≡ entry.life.boot
   pub number : number_at switch place ≡ Some shown.number
 
--- it is told of that member; if there is none, nothing is told
+-- C asks for the member at the index `place`; if there is none, nothing is written
 pub record AsksMember (place : ℕ) (shown told : MemberShown) (instance : Instance) (status : Status)
     : Type 0 where
   pub none : (switch : SwitchOf) → StandsFor instance.switch switch → entry_at switch place ≡ None

@@ -1,4 +1,4 @@
-//! The block of the heap by which C holds a switch.
+//! The heap block by which C holds a switch.
 
 ghost use Rattle.std.specs.Prelude.{◌≡◌, Option, None, Some, true, is_some};
 ghost use Rattle.switch_c.specs.declared.instance.Instance.{Instance};
@@ -8,8 +8,8 @@ use std::alloc::Global;
 use std::marker::Model;
 use std::ptr::null_mut;
 
-/// The address of an instance on the heap, which it owns; or any address, and nothing. Letting it go gives
-/// no memory back, so a block that owns an instance is made a box first.
+/// The address of an instance on the heap, which it owns; or any address, owning nothing. Dropping it frees no
+/// memory, so a block that owns an instance must be made a box first.
 #[repr(C)]
 #[derive(Drop)]
 pub struct Block {
@@ -24,14 +24,14 @@ impl Model for Block {
 }
 
 impl Block {
-    /// It owns nothing.
+    /// Creates a block that owns nothing.
     pub(crate) fn empty() -> Block
         ensures { result.instance ≡ None }
     {
         Block { at: null_mut() }
     }
 
-    /// It owns the instance of a box.
+    /// Creates a block that owns the instance of `boxed`.
     pub(crate) fn of(boxed: Box<Instance>) -> Block
         ensures { result.instance ≡ Some boxed.value }
     {
@@ -39,7 +39,7 @@ impl Block {
         Block { at: at as *mut u8 }
     }
 
-    /// The box of the instance that it owns.
+    /// Returns the box of the instance that the block owns. The block must own one.
     pub(crate) fn into_box(self, alloc: Global) -> Box<Instance>
         requires { is_some self.instance ≡ true }
         ensures { self.instance ≡ Some result.value }

@@ -9,7 +9,7 @@ use crate::instance::Instance;
 use std::alloc::Global;
 use std::mem;
 
-/// What C holds of a switch. One that is zero holds none.
+/// What C holds of a switch. A handle that is zero holds none.
 #[repr(C)]
 #[derive(Drop)]
 pub struct Handle {
@@ -18,7 +18,7 @@ pub struct Handle {
 }
 
 impl Handle {
-    // Holds a switch.
+    // Creates a handle that holds a switch.
     fn of(instance: Box<Instance>) -> Handle
         ensures some { result.block.instance ≡ Some instance.value }
         ensures held { result.held ≡ 1 }
@@ -29,7 +29,7 @@ impl Handle {
         }
     }
 
-    /// Takes the switch out, if it holds one. Then it holds none.
+    /// Takes the switch out, if the handle holds one. It then holds none.
     pub fn take(&mut self, alloc: Global) -> Option<Box<Instance>>
         requires { IsHandle self.old.held self.old.block.instance }
         ensures taken { MatchOption result (self.old.block.instance ≡ None) (λ instance. self.old.block.instance ≡ Some instance.value) }
@@ -50,7 +50,8 @@ impl Handle {
         }
     }
 
-    /// Puts a switch in. The handle must hold none: one that it held would never be given back.
+    /// Puts a switch in. The handle must hold none, because a switch that it held would never be
+    /// freed.
     pub fn put(&mut self, instance: Box<Instance>)
         requires { self.old.block.instance ≡ None }
         ensures put { self.new.block.instance ≡ Some instance.value }

@@ -1,4 +1,4 @@
-//! What a handle holds: a switch, the frames that it let go out last, and the table that it loaded last.
+//! What a handle holds: a switch, its last outgoing frames, and the table that it loaded last.
 
 ghost use Rattle.std.specs.Prelude.{◌≡◌, ◌+◌, ◌≤◌, ◌<◌, ◌^◌, [], length, slice_get, option_copied, is_some, IfOk, MatchResult, None, true, false};
 ghost use Rattle.an_base.specs.declared.limits.TheConstants.{LAST_PORT};
@@ -11,32 +11,32 @@ use crate::shown::{FrameShown, MemberShown, PortShown, RowShown, Shown};
 use crate::status::Status;
 use an_base::life::Life;
 use an_base::limits::{LAST_PORT, MOST_NUMBER, PORTS};
-use an_base::memory::OutOfMemory;
 use an_base::port::Sample;
+use common_values::memory::OutOfMemory;
 use std::alloc::Global;
 use switch_core::out::{FrameOut, Out};
 use switch_core::switch::{ClockRefusal, MOST_CARRIED, MOST_WORKS, Switch, TableFor};
 
-// The first number that is no identifier.
+// The lowest number that is not an identifier.
 const UID_END: u64 = 1 << 48;
 
-/// A switch, the frames that it let go out last with how many of them were handed out, the table that it
-/// loaded last, and whether its life is over because memory was wanting for a clock or a frame.
+/// A switch, its last outgoing frames with the number of those delivered, the table that it loaded last, and
+/// whether its life is over because memory ran out for a clock or a frame.
 #[derive(Drop)]
 pub struct Instance {
     /// The switch.
     pub switch: Switch,
-    /// What came of the last clock or frame.
+    /// The result of the last clock or frame.
     pub out: Out,
-    /// How many of its frames were handed out.
+    /// The number of its frames that were delivered.
     pub given: usize,
     /// The table that was loaded last.
     pub loaded: Option<TableFor>,
-    /// Whether memory was wanting for a clock or a frame.
+    /// Whether memory ran out for a clock or a frame.
     pub lost: bool,
 }
 
-// Whether a set has a port, below 16: bit `p` of a set says that it has port `p`.
+// Reports whether a set has a port below 16: bit `p` of a set says that it has port `p`.
 fn has_port(set: u16, port: u8) -> bool
     requires { port ≤ LAST_PORT }
     ensures { result ≡ has_port set port }
@@ -44,7 +44,7 @@ fn has_port(set: u16, port: u8) -> bool
     (set >> port) % 2 == 1
 }
 
-// What the hardware says of a port, by the set of the ports with a link and that of the ports to hosts.
+// Returns what the hardware says of a port, given the set of ports with a link and the set of ports to hosts.
 fn sample_of(up: u16, hosts: u16, port: u8) -> Sample
     requires { port ≤ LAST_PORT }
     ensures { result ≡ sample_of up hosts port }
@@ -58,7 +58,7 @@ fn sample_of(up: u16, hosts: u16, port: u8) -> Sample
     Sample::Switch
 }
 
-// What the hardware says of the twelve ports.
+// Returns what the hardware says of the twelve ports.
 fn samples_of(up: u16, hosts: u16) -> [Sample; PORTS]
     ensures { result ≡ samples_of up hosts }
 {
@@ -78,21 +78,21 @@ fn samples_of(up: u16, hosts: u16) -> [Sample; PORTS]
     ]
 }
 
-// Whether a port is one of 1 to 12.
+// Reports whether a port is one of 1 to 12.
 fn is_port(port: u8) -> bool
     ensures { result ≡ is_port port }
 {
     0 < port && port <= LAST_PORT
 }
 
-// Whether a switch may be started with these numbers.
+// Reports whether a switch can be started with these numbers.
 fn is_in_range(uid: u64, boot: u32, had: u8) -> bool
     ensures { result ≡ is_in_range uid boot had }
 {
     uid < UID_END && 0 < boot && 0 < had && had <= MOST_NUMBER
 }
 
-// Tells a frame, and answers whether there is room for its bytes. If there is none its length alone is told.
+// Copies a frame, and reports whether its bytes fit. If they do not, only its length is set.
 fn tell(frame: &FrameOut, shown: &mut FrameShown, bytes: &mut [u8]) -> bool
     ensures room { length bytes.old < length frame.now.bytes → (result ≡ false) × HasNoRoom frame.now shown.old shown.new bytes.old bytes.new }
     ensures done { length frame.now.bytes ≤ length bytes.old → (result ≡ true) × IsTold frame.now shown.new bytes.old bytes.new }
@@ -108,7 +108,7 @@ fn tell(frame: &FrameOut, shown: &mut FrameShown, bytes: &mut [u8]) -> bool
 }
 
 impl Instance {
-    // A switch at power-on, which has let no frame go out and loaded no table.
+    // Creates a switch at power-on, without outgoing frames and without a table.
     fn of(alloc: Global, switch: Switch) -> Instance
         ensures switch { result.switch ≡ switch }
         ensures out { result.out ≡ record { frames = []; noframe = false } }
@@ -125,7 +125,7 @@ impl Instance {
         }
     }
 
-    // A switch at power-on on the heap, if the numbers are in their ranges.
+    // Creates a switch at power-on on the heap. The numbers must be in their ranges.
     fn started(
         alloc: Global,
         life: Life,
@@ -141,8 +141,11 @@ impl Instance {
         Ok(Box::new(alloc, Instance::of(alloc, switch))?)
     }
 
-    /// A switch at power-on on the heap. `Argument` says that a number is out of its range: an identifier
-    /// is below 2^48, a boot is from 1, and a number is 1 to 126.
+    /// Creates a switch at power-on on the heap.
+    ///
+    /// # Errors
+    /// `Argument` if a number is out of its range: `uid` is below 2^48, `boot` is at least 1, and `had` is 1 to
+    /// 126; otherwise `OutOfMemory` if an allocation fails.
     pub fn boxed(
         alloc: Global,
         uid: u64,
@@ -164,7 +167,7 @@ impl Instance {
         }
     }
 
-    // Whether it takes no more clocks and frames.
+    // Reports whether the switch takes no more clocks and frames.
     fn is_over(&self) -> bool
         ensures over { result ≡ is_over self.now }
         ensures lost { result ≡ false → self.now.lost ≡ false }
@@ -176,8 +179,8 @@ impl Instance {
         self.lost || is_full || self.switch.is_spent()
     }
 
-    /// A clock comes at this tick, as to a switch of `switch_core`: bit `p` of `up` says that port `p` has
-    /// a link, and bit `p` of `hosts` that a host is at its other end.
+    /// Passes a clock event at the tick `now` to the switch, as in `switch_core`: bit `p` of `up` says that port
+    /// `p` has a link, and bit `p` of `hosts` that a host is at its other end.
     pub fn clock(&mut self, now: u64, up: u16, hosts: u16) -> Status
         ensures { Clocks now up hosts self.old self.new result }
     {
@@ -198,7 +201,8 @@ impl Instance {
         }
     }
 
-    /// Bytes come by a port, as to a switch of `switch_core`. `Argument` says that it is not one of 1 to 12.
+    /// Passes `bytes`, which came by `port`, to the switch, as in `switch_core`. Returns `Argument` if `port` is
+    /// not 1 to 12.
     pub fn frame(&mut self, port: u8, bytes: &[u8]) -> Status
         ensures { TakesFrame port bytes.now self.old self.new result }
     {
@@ -218,7 +222,7 @@ impl Instance {
         }
     }
 
-    // The next frame that is to be handed out.
+    // Returns the next frame to deliver.
     fn waiting(&self) -> Option<&FrameOut>
         ensures frame { option_copied result ≡ slice_get self.now.out.frames self.now.given }
         ensures few { is_some result ≡ true → self.now.given + 1 < 2 ^ 64 }
@@ -226,9 +230,9 @@ impl Instance {
         self.out.frames.as_slice().get(self.given)
     }
 
-    /// Hands out the next frame of the last clock or frame: its port, its length, and its bytes at the
-    /// front of these. `NoMore` says that there is none, and `Room` that it is longer than these; then its
-    /// length alone is told.
+    /// Copies the next outgoing frame into `bytes`, and its port and length into `shown`.
+    ///
+    /// Returns `NoMore` if there is none, and `Room` if `bytes` is too short; then only the length is set.
     pub fn next(&mut self, shown: &mut FrameShown, bytes: &mut [u8]) -> Status
         ensures { HandsOut (shown.old, bytes.old) (shown.new, bytes.new) self.old self.new result }
     {
@@ -242,7 +246,7 @@ impl Instance {
         Status::Done
     }
 
-    /// Loads the table that is due, as a switch of `switch_core` does. `NotDue` says that none is due.
+    /// Loads the table that is due, as in `switch_core`. Returns `NotDue` if none is due.
     pub fn load(&mut self) -> Status
         ensures { Loads self.old self.new result }
     {
@@ -258,7 +262,7 @@ impl Instance {
         }
     }
 
-    /// Tells what the switch shows of itself.
+    /// Writes what the switch shows of itself into `shown`.
     pub fn show(&self, shown: &mut Shown) -> Status
         ensures { Shows shown.new self.now result }
     {
@@ -266,8 +270,8 @@ impl Instance {
         Status::Done
     }
 
-    /// Tells what the switch takes the other end of a port to be. `Argument` says that it is not one of 1
-    /// to 12.
+    /// Writes what the switch takes the other end of `port` to be into `shown`. Returns `Argument` if `port` is not
+    /// 1 to 12.
     pub fn port(&self, port: u8, shown: &mut PortShown) -> Status
         ensures { AsksPort port shown.old shown.new self.now result }
     {
@@ -278,7 +282,8 @@ impl Instance {
         Status::Done
     }
 
-    /// Tells the row at a place of the table that was loaded last. `NoMore` says that there is none.
+    /// Writes the row at the index `place` of the table that was loaded last into `shown`. Returns `NoMore` if
+    /// there is none.
     pub fn row(&self, place: usize, shown: &mut RowShown) -> Status
         ensures { AsksRow place shown.old shown.new self.now result }
     {
@@ -292,7 +297,8 @@ impl Instance {
         Status::Done
     }
 
-    /// Tells the member at a place of what the switch has finished with. `NoMore` says that there is none.
+    /// Writes the member at the index `place` of what the switch has finished with into `shown`. Returns `NoMore`
+    /// if there is none.
     pub fn member(&self, place: usize, shown: &mut MemberShown) -> Status
         ensures { AsksMember place shown.old shown.new self.now result }
     {

@@ -1,14 +1,15 @@
-//! One switch for a program in C: a static library whose exports are the calls of `switch_core`.
+//! library: one switch for C programs, as a static library.
+//! Its exports are the calls of `switch_core`.
 //!
-//! It stands on the switch alone. Its contract: C holds a switch by a handle, and each export does to the
-//! switch of a handle what the call of `switch_core` does, restated clause by clause. Whatever a caller
-//! passes within the ranges of the types is answered by a status. A call that is refused changes nothing,
-//! and writes nothing but the length of a frame that finds no room. Rows, members and frames are handed out
-//! one by one, in their order.
+//! It depends on the control program of one switch (`switch_core`), and on no simulated network. Its contract: C
+//! holds a switch by a handle, and each export does to the switch of a handle what the call of `switch_core` does,
+//! with the same postconditions. Every call within the ranges of the types returns a return code. A rejected call
+//! changes nothing, and writes nothing except the length of a frame for which there is too little space. Rows,
+//! members and frames are delivered one by one, in their order.
 //!
-//! `embed/autonet.h` names the statuses of each export, and says what is unchanged after each. It also says
-//! what no clause can see, and the C side owes: that a handle is zero before its first start and is written
-//! by these calls alone, and that pointers are those of what they say.
+//! `embed/autonet.h` lists the return codes of each export, and what is unchanged after each. It also says what the
+//! C side must ensure, because no contract can see it: that a handle is zero before its first start and is written
+//! only by these calls, and that pointers point to what they say.
 #![tactic(auto)]
 
 mod block;
@@ -29,9 +30,9 @@ use crate::shown::{FrameShown, MemberShown, PortShown, RowShown, Shown};
 use crate::status::Status;
 use std::alloc::Global;
 
-/// Starts a switch in a life that no switch had before: its identifier below 2^48 and its boot from 1. It
-/// begins in an epoch that it has not joined, with the number that it had before, 1 to 126. Its tables are
-/// to have all legal routes if `any` holds, else the least ones alone. The handle must hold no switch.
+/// Starts a switch in a life that no switch had before: `uid` below 2^48, and `boot` from 1. It starts in the epoch
+/// `epoch`, which it has not joined, with the short address `had` (1 to 126) that it had before. Its tables have
+/// all legal routes if `any` is true, otherwise only the shortest. The handle must hold no switch.
 #[unsafe(no_mangle)]
 pub extern "C" fn autonet_start(
     alloc: Global,
@@ -61,8 +62,8 @@ pub extern "C" fn autonet_start(
     }
 }
 
-/// A clock comes at this tick. Bit `p` of `up` says that port `p`, 1 to 12, has a link, and bit `p` of
-/// `hosts` that a host is at its other end; the other bits say nothing.
+/// Passes a clock event at the tick `now` to the switch. Bit `p` of `up` says that port `p`, 1 to 12, has a link,
+/// and bit `p` of `hosts` that a host is at its other end; the other bits are ignored.
 #[unsafe(no_mangle)]
 pub extern "C" fn autonet_clock(
     alloc: Global,
@@ -85,7 +86,7 @@ pub extern "C" fn autonet_clock(
     }
 }
 
-/// Bytes come by a port, 1 to 12.
+/// Passes `bytes`, which came by `port`, 1 to 12, to the switch.
 #[unsafe(no_mangle)]
 pub extern "C" fn autonet_frame(alloc: Global, switch: &mut Handle, port: u8, bytes: &[u8]) -> u32
     requires handle { IsHandle switch.old.held switch.old.block.instance }
@@ -102,8 +103,8 @@ pub extern "C" fn autonet_frame(alloc: Global, switch: &mut Handle, port: u8, by
     }
 }
 
-/// Hands out the next frame of the last clock or frame: its port, its length, and its bytes at the front
-/// of `bytes`. If they have too little room the length alone is told.
+/// Copies the next outgoing frame of the last clock or frame into `bytes`, and its port and length into `frame`. If
+/// `bytes` is too short, only the length is set.
 #[unsafe(no_mangle)]
 pub extern "C" fn autonet_next(
     alloc: Global,
@@ -142,7 +143,7 @@ pub extern "C" fn autonet_load(alloc: Global, switch: &mut Handle) -> u32
     }
 }
 
-/// Tells what the switch shows of itself.
+/// Writes what the switch shows of itself into `shown`.
 #[unsafe(no_mangle)]
 pub extern "C" fn autonet_show(alloc: Global, switch: &mut Handle, shown: &mut Shown) -> u32
     requires handle { IsHandle switch.old.held switch.old.block.instance }
@@ -159,7 +160,7 @@ pub extern "C" fn autonet_show(alloc: Global, switch: &mut Handle, shown: &mut S
     }
 }
 
-/// Tells what the switch takes the other end of a port, 1 to 12, to be.
+/// Writes what the switch takes the other end of `port`, 1 to 12, to be into `shown`.
 #[unsafe(no_mangle)]
 pub extern "C" fn autonet_port(
     alloc: Global,
@@ -181,7 +182,7 @@ pub extern "C" fn autonet_port(
     }
 }
 
-/// Tells the row at a place of the table that was loaded last, from 0.
+/// Writes the row at the index `place`, from 0, of the table that was loaded last into `row`.
 #[unsafe(no_mangle)]
 pub extern "C" fn autonet_row(
     alloc: Global,
@@ -203,7 +204,7 @@ pub extern "C" fn autonet_row(
     }
 }
 
-/// Tells the member at a place, from 0, of what the switch has finished with in its present epoch.
+/// Writes the member at the index `place`, from 0, of what the switch has now finished with into `member`.
 #[unsafe(no_mangle)]
 pub extern "C" fn autonet_member(
     alloc: Global,
@@ -225,7 +226,7 @@ pub extern "C" fn autonet_member(
     }
 }
 
-/// Ends the life of the switch and gives back its memory. The handle then holds no switch.
+/// Ends the life of the switch and frees its memory. The handle then holds no switch.
 #[unsafe(no_mangle)]
 pub extern "C" fn autonet_end(alloc: Global, switch: &mut Handle) -> u32
     requires handle { IsHandle switch.old.held switch.old.block.instance }
@@ -238,8 +239,8 @@ pub extern "C" fn autonet_end(alloc: Global, switch: &mut Handle) -> u32
     }
 }
 
-/// Fills each byte of each field with the place of the field in its struct, from 1, so that a program can
-/// see that its header has the fields where this library has them.
+/// Fills each byte of each field with the index of the field in its struct, from 1, so that a program can check
+/// that its header has the fields where this library has them.
 #[unsafe(no_mangle)]
 pub extern "C" fn autonet_fields(
     shown: &mut Shown,

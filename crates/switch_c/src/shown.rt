@@ -15,27 +15,29 @@ use an_base::row::Row;
 #[repr(C)]
 #[derive(Clone, Copy)]
 pub struct Shown {
-    /// The epoch that it is in.
+    /// The present epoch.
     pub epoch: u64,
-    /// The epoch of the table that it loaded last, 0 where `number` is 0.
+    /// The epoch of the table that was loaded last; 0 if `number` is 0.
     pub table_epoch: u64,
-    /// How many clocks and frames came in this life, at most 2^60.
+    /// The number of clocks and frames in this life, at most 2^60.
     pub works: u64,
-    /// How many frames with a body came in its epoch, at most 2^28.
+    /// The number of frames with a body in this epoch, at most 2^28.
     pub carried: u32,
-    /// How many members it has finished with in its epoch, 0 where it has not finished.
+    /// The number of members that the switch has finished with in this epoch; 0 if it has not
+    /// finished.
     pub members: u32,
-    /// Its number in the table that it loaded last, 1 to 126; 0 where it has loaded none.
+    /// The short address of the switch in the table that was loaded last, 1 to 126; 0 if none was
+    /// loaded.
     pub number: u8,
-    /// 1 where it is to load a table, else 0.
+    /// 1 if a table is to be loaded, otherwise 0.
     pub load_due: u8,
-    /// 1 where something that it sent is not acknowledged, else 0.
+    /// 1 if something that the switch sent is not acknowledged, otherwise 0.
     pub unacked: u8,
-    /// 1 where no epoch is left, else 0.
+    /// 1 if no epoch is left, otherwise 0.
     pub spent: u8,
-    /// 1 where what came in last is no frame, else 0.
+    /// 1 if the last bytes that came in are not a frame, otherwise 0.
     pub noframe: u8,
-    /// 1 where memory was wanting for a clock or a frame, else 0.
+    /// 1 if memory ran out for a clock or a frame, otherwise 0.
     pub lost: u8,
 }
 
@@ -43,13 +45,13 @@ pub struct Shown {
 #[repr(C)]
 #[derive(Clone, Copy)]
 pub struct PortShown {
-    /// The identifier of the switch at the other end, 0 where `boot` is 0.
+    /// The identifier of the switch at the other end; 0 if `boot` is 0.
     pub uid: u64,
-    /// Its boot, 0 where it is not known.
+    /// Its boot; 0 if it is not known.
     pub boot: u32,
-    /// Its port, 0 where `boot` is 0.
+    /// Its port; 0 if `boot` is 0.
     pub port: u8,
-    /// 0 dead, 1 checking, 2 host, 3 who, 4 loop, 5 good.
+    /// The state of the port: 0 dead, 1 checking, 2 host, 3 who, 4 loop, 5 good.
     pub state: u8,
 }
 
@@ -57,11 +59,11 @@ pub struct PortShown {
 #[repr(C)]
 #[derive(Clone, Copy)]
 pub struct RowShown {
-    /// The exits: bit `p` says that port `p` is one.
+    /// The exits (egress ports): bit `p` says that port `p` is one.
     pub exits: u16,
-    /// The port at which packets came in, 0 for those of the switch itself.
+    /// The port at which packets come in, 0 for the packets of the switch itself.
     pub entry: u8,
-    /// The number of the switch to which they go.
+    /// The short address of the switch to which they go.
     pub to: u8,
 }
 
@@ -73,28 +75,28 @@ pub struct MemberShown {
     pub uid: u64,
     /// Its boot.
     pub boot: u32,
-    /// Its number in the topology, 1 to 126.
+    /// Its short address in the topology, 1 to 126.
     pub number: u8,
 }
 
-/// A frame that goes out.
+/// An outgoing frame.
 #[repr(C)]
 #[derive(Clone, Copy)]
 pub struct FrameShown {
-    /// How many bytes it has.
+    /// The number of its bytes.
     pub length: usize,
     /// The port by which it goes out, 1 to 12.
     pub port: u8,
 }
 
-// 1 for yes and 0 for no.
+// Returns 1 for true and 0 for false.
 fn flag(is: bool) -> u8
     ensures { result ≡ flag_of is }
 {
     if is { 1 } else { 0 }
 }
 
-// The number of a state.
+// Returns the number of a port state.
 fn state(state: PortState) -> u8
     ensures { result ≡ state_of state }
 {
@@ -109,7 +111,7 @@ fn state(state: PortState) -> u8
 }
 
 impl Shown {
-    /// What a switch shows of itself.
+    /// Returns what a switch shows of itself.
     pub fn of(instance: &Instance) -> Shown
         ensures { IsShown instance.now result }
     {
@@ -130,7 +132,7 @@ impl Shown {
         }
     }
 
-    /// Each byte of each field is the place of the field.
+    /// Returns the struct in which each byte of each field is the index of the field, from 1.
     pub fn by_place() -> Shown
         ensures { result ≡ shown_fields }
     {
@@ -150,7 +152,7 @@ impl Shown {
     }
 }
 
-// The epoch of the table that was loaded last, and the number of the switch in it.
+// Returns the epoch of the table that was loaded last, and the short address of the switch in it.
 fn table_of(instance: &Instance) -> (u64, u8)
     ensures epoch { result.0 ≡ table_epoch_of instance.now }
     ensures number { result.1 ≡ number_of instance.now }
@@ -161,7 +163,7 @@ fn table_of(instance: &Instance) -> (u64, u8)
     }
 }
 
-// How many members a switch has finished with.
+// Returns the number of members that a switch has finished with.
 fn members_of(instance: &Instance) -> u32
     ensures { (s : SwitchOf) → StandsFor instance.now.switch s → result ≡ member_count (finish_of s) }
 {
@@ -172,7 +174,7 @@ fn members_of(instance: &Instance) -> u32
 }
 
 impl PortShown {
-    /// What a switch takes the other end of a port to be.
+    /// Returns what a switch takes the other end of a port to be.
     pub fn of(view: PortView) -> PortShown
         ensures { IsPortShown view result }
     {
@@ -193,7 +195,7 @@ impl PortShown {
         }
     }
 
-    /// Each byte of each field is the place of the field.
+    /// Returns the struct in which each byte of each field is the index of the field, from 1.
     pub fn by_place() -> PortShown
         ensures { result ≡ port_fields }
     {
@@ -207,7 +209,7 @@ impl PortShown {
 }
 
 impl RowShown {
-    /// A row of a table.
+    /// Returns a row of a table.
     pub fn of(row: &Row) -> RowShown
         ensures { IsRowShown row.now result }
     {
@@ -218,7 +220,7 @@ impl RowShown {
         }
     }
 
-    /// Each byte of each field is the place of the field.
+    /// Returns the struct in which each byte of each field is the index of the field, from 1.
     pub fn by_place() -> RowShown
         ensures { result ≡ row_fields }
     {
@@ -231,7 +233,7 @@ impl RowShown {
 }
 
 impl MemberShown {
-    /// A member of a topology.
+    /// Returns a member of a topology.
     pub fn of(life: Life, number: u8) -> MemberShown
         ensures { result ≡ record { uid = life.uid; boot = life.boot; number = number } }
     {
@@ -242,7 +244,7 @@ impl MemberShown {
         }
     }
 
-    /// Each byte of each field is the place of the field.
+    /// Returns the struct in which each byte of each field is the index of the field, from 1.
     pub fn by_place() -> MemberShown
         ensures { result ≡ member_fields }
     {
@@ -255,7 +257,7 @@ impl MemberShown {
 }
 
 impl FrameShown {
-    /// Each byte of each field is the place of the field.
+    /// Returns the struct in which each byte of each field is the index of the field, from 1.
     pub fn by_place() -> FrameShown
         ensures { result ≡ frame_fields }
     {

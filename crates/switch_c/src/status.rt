@@ -1,36 +1,36 @@
-//! What C is answered.
+//! What C calls return.
 
 ghost use Rattle.std.specs.Prelude.{◌≡◌};
 ghost use Rattle.switch_c.specs.Codes.{code_of};
 
-/// What came of a call.
+/// The return code of a call.
 #[derive(Clone, Copy)]
 pub enum Status {
-    /// It was done.
+    /// The call was done.
     Done,
     /// A number is out of its range. Nothing was done.
     Argument,
-    /// No memory was found. A load or a start has changed nothing; after a clock or a frame the life of the
-    /// switch is over.
+    /// An allocation failed. A load or a start has changed nothing; after a clock or a frame the life of the switch
+    /// is over.
     OutOfMemory,
     /// The clock was taken, a change is due, and no epoch is left for it: the life of the switch is over.
     Spent,
     /// The life of the switch is over. Nothing was done.
     Over,
-    /// No table is to be loaded. Nothing was done.
+    /// No table is due. Nothing was done.
     NotDue,
     /// The handle holds no switch. Nothing was done.
     NotStarted,
     /// The handle holds a switch already. Nothing was done.
     Started,
-    /// There is no such frame, row or member, or none any more. Nothing was done.
+    /// There is no such frame, row or member, or no more. Nothing was done.
     NoMore,
-    /// The frame is longer than the room for it. Its length was told; it is still the next one.
+    /// The frame is longer than the space for it. Its length was set; it is still the next one.
     Room,
 }
 
 impl Status {
-    /// The number by which C knows it.
+    /// Returns the number of the return code in C.
     pub fn code(self) -> u32
         ensures { result ≡ code_of self }
     {

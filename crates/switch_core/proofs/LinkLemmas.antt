@@ -5,7 +5,7 @@ use Rattle.std.specs.Cmp.Lexicographic.{slice_cmp}
 use Rattle.an_base.specs.Values.{EndId, PeerAt}
 use Rattle.an_base.specs.Order.{link_cmp}
 use Rattle.an_base.proofs.OrderLaws.{links_apart}
-use Rattle.an_base.proofs.OrderingLemmas.{equal_is}
+use Rattle.common_values.proofs.OrderingLemmas.{equal_is}
 use Rattle.connectivity.specs.declared.conn.Conn.{Conn}
 use Rattle.connectivity.specs.Connections.{is_end, is_same_end}
 use Rattle.connectivity.proofs.EndLemmas.{is_end_is, same_end_is}

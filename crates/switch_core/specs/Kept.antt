@@ -1,5 +1,5 @@
--- What callers see of a switch: for which switch of the definition it stands, and what comes of a clock, a
--- frame or a load.
+-- What callers see of a switch: the switch of the definition that it represents, and the results of clock events,
+-- frames and loads.
 
 use Rattle.std.specs.Prelude.{◌≡◌, ℕ, ◌-◌, ◌≤◌, List, [], length, Some, Bool, true, false}
 use Rattle.an_base.specs.Numbers.{AreNumbers}
@@ -20,15 +20,15 @@ use Rattle.switch_core.specs.Steps.{clocked, framed, is_spent_by, loaded, sample
 use Rattle.switch_core.specs.Sound.{carries, counted}
 use Rattle.switch_core.specs.Stands.{Stands}
 
--- what it was started with, what is kept of what happened to it, how many clocks and frames came, and how
--- many of these were no frames with a body in its epoch
+-- what it was started with, what is kept of its history, the number of clock events and frames, and the number of
+-- those that were not frames with a body in its epoch
 pub record KeptOf : Type 0 where
   pub start : StartOf
   pub control : Control
   pub works : ℕ
   pub others : ℕ
 
--- how many frames with a body came in its epoch
+-- the number of frames with a body in its epoch
 abbrev pub carried : KeptOf → ℕ
 carried kept = kept.works - kept.others
 
@@ -36,26 +36,28 @@ carried kept = kept.works - kept.others
 abbrev pub epoch_of : KeptOf → ℕ
 epoch_of kept = kept.control.epoch
 
--- what is kept is that of all that happened to this switch
+-- `kept` represents a switch of the definition: it has what is kept of that switch's history
 abbrev pub StandsFor : KeptOf → SwitchOf → Type 0
 StandsFor kept = Stands kept.control
 
--- whether a clock has answered that the epochs are spent; it takes clocks and frames if none has
+-- whether a clock event has returned that the epochs are spent
 abbrev pub is_spent : KeptOf → Bool
 is_spent kept = kept.control.spent
 
+-- the epochs are not spent, so the switch takes clock events and frames
 abbrev pub IsWorking : KeptOf → Type 0
 IsWorking kept = is_spent kept ≡ false
 
--- whether it is to load a table
+-- whether a load of the table is due
 abbrev pub load_due : KeptOf → Bool
 load_due kept = kept.control.load_due
 
+-- a load of the table is due
 abbrev pub IsLoadDue : KeptOf → Type 0
 IsLoadDue kept = load_due kept ≡ true
 
--- Bytes came by a port to a switch that then is of this kind. Those of a frame are handled as this frame;
--- those of none change nothing, which is told.
+-- bytes came on `port` to `switch`, which then is one for which `Is` holds: the bytes of a frame are processed as that
+-- frame, and others change nothing, which `out` says
 pub record Handles (port : ℕ) (bytes : List ℕ) (switch : SwitchOf) (Is : SwitchOf → Type 0)
     (out : OutOf) : Type 0 where
   pub frame : (frame : Frame) → IsFrame frame → bytes ≡ spelling frame
@@ -63,32 +65,34 @@ pub record Handles (port : ℕ) (bytes : List ℕ) (switch : SwitchOf) (Is : Swi
       × (out ≡ record { frames = all_spelled (framed port frame switch).frames; noframe = false })
   pub no_frame : IsNoFrame bytes → Is switch × (out ≡ record { frames = []; noframe = true })
 
--- what bytes that come in are: whether they are no frame, and how many bodies they carry
+-- whether bytes of this kind are no frame
 abbrev pub is_noframe : Arrival → Bool
 is_noframe NoFrame = true
 is_noframe Bodiless = false
 is_noframe Body = false
 
+-- the number of bodies in bytes of this kind
 abbrev pub bodies : Arrival → ℕ
 bodies NoFrame = 0
 bodies Bodiless = 0
 bodies Body = 1
 
--- bytes came, and the bodies of the frame that they are were counted
+-- bytes came, and the body of the frame that they are, if it has one, was counted
 pub record Counts (bytes : List ℕ) (old_epoch new_epoch before after : ℕ) : Type 0 where
   pub frame : (frame : Frame) → IsFrame frame → bytes ≡ spelling frame
       → after ≡ counted old_epoch new_epoch before (carries frame)
   pub no_frame : IsNoFrame bytes → after ≡ before
 
--- a clock came, and it is answered whether no epoch is left for a change that is due
+-- a clock event came to `switch`, which then is one for which `Is` holds; `spent` says whether a change is due for
+-- which no epoch is left
 pub record Ticks (now : ℕ) (samples : List Sample) (switch : SwitchOf) (Is : SwitchOf → Type 0) (out : OutOf)
     (spent : Bool) : Type 0 where
   pub spends : spent ≡ is_spent_by switch (sampled_by now samples switch)
   pub stands : Is (clocked now samples switch).switch
   pub frames : out ≡ record { frames = all_spelled (clocked now samples switch).frames; noframe = false }
 
--- A table was loaded. It is that of the topology with which the switch has finished, which is a graph with as
--- many different numbers of 1 to 126.
+-- the table was loaded: that of the topology that the switch has finished with, which is a graph, with a different
+-- number from 1 to 126 for each member
 pub record Loads (switch : SwitchOf) (Is : SwitchOf → Type 0) (table : TableOf) : Type 0 where
   pub topo : TopoOf
   pub finished : finish_of switch ≡ Some topo

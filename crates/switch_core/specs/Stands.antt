@@ -1,4 +1,4 @@
--- What is kept of a switch stands for all that happened to it, and what the parts of its code do.
+-- What is kept of a switch represents its history, and the effects of the parts of its code.
 
 use Rattle.std.specs.Prelude.{◌≡◌, ℕ, ◌+◌, ◌^◌, ◌<◌, ◌≤◌, List, [], ◌∷◌, ◌++◌, length, map, Option, Some, None, is_some, drop, Bool, true, false}
 use Rattle.an_base.specs.Values.{EndId}
@@ -19,17 +19,17 @@ use Rattle.switch_core.specs.Steps.{Step, carried_to, receives, all_added, log_w
 use Rattle.switch_core.specs.Sound.{IsSoundBy}
 use Rattle.switch_core.specs.Bytes.{BytesOut, all_spelled}
 
--- what is kept of an epoch is that of the bodies that were accepted in it
+-- `core` represents the bodies in `log`, accepted in the epoch joined with `card`
 pub record HasCore (core : CoreOf) (card : CardOf) (log : Log) : Type 0 where
   pub stands : StandsFor core log
   pub joined_with : core.card ≡ card
 
--- a core is kept if the epoch was joined, and only then
+-- a core is kept if and only if the epoch was joined, and it then represents the bodies in `log`
 abbrev pub HasJoined : Option CoreOf → Bool → CardOf → Log → Type 0
 HasJoined None joined card log = joined ≡ false
 HasJoined (Some core) joined card log = (joined ≡ true) × HasCore core card log
 
--- what is kept of a switch is that of all that happened to it
+-- `control` represents `switch`: it has what is kept of the history of `switch`
 pub record Stands (control : Control) (switch : SwitchOf) : Type 0 where
   pub life : control.life ≡ switch.life
   pub any : control.any ≡ switch.any
@@ -44,16 +44,16 @@ pub record Stands (control : Control) (switch : SwitchOf) : Type 0 where
   pub tick : control.tick ≡ switch.tick
   pub spent : control.spent ≡ switch.spent
 
--- what is kept is that after the step, and what goes out gained the frames of the step
+-- `new` represents the switch after the step, and the step's frames were appended to what goes out
 abbrev pub Done : Control → List BytesOut → List BytesOut → Step → Type 0
 Done new before after step = Stands new step.switch × (after ≡ before ++ all_spelled step.frames)
 
--- and so whatever the old one stood for
+-- whatever switch `old` represented, `new` represents it after `change`, and the frames of that were appended
 abbrev pub Does : (SwitchOf → Step) → Control → Control → List BytesOut → List BytesOut → Type 0
 Does change old new before after =
     (switch : SwitchOf) → Stands old switch → Done new before after (change switch)
 
--- a change by which nothing goes out
+-- whatever switch `old` represented, `new` represents it after `change`, by which no frame goes out
 abbrev pub Becomes : (SwitchOf → SwitchOf) → Control → Control → Type 0
 Becomes change old new = (switch : SwitchOf) → Stands old switch → Stands new (change switch)
 
@@ -63,35 +63,35 @@ pub record HasNumbers (control : Control) (items : List OnPort) : Type 0 where
   pub stands : Stands control switch
   pub numbers : (port : ℕ) → length (switch.sendings port).pushed + length (on_port port items) ≤ 2 ^ 31
 
--- the number that it proposes is that of a table
+-- the number that the switch proposes is 1 to 126
 pub record MayJoin (control : Control) : Type 0 where
   pub switch : SwitchOf
   pub stands : Stands control switch
   pub least : 1 ≤ switch.number
   pub most : switch.number ≤ MOST_NUMBER
 
--- at each port at most eight bodies are outstanding
+-- at most eight bodies are outstanding at each port
 pub record HasWindows (control : Control) : Type 0 where
   pub switch : SwitchOf
   pub stands : Stands control switch
   pub windows : (port : ℕ) → length (switch.sendings port).sent ≤ 8
 
--- all but the buffer is as it was
+-- only the buffer changed
 abbrev pub IsSame : Control → Control → Type 0
 IsSame old new = new ≡ record old { buffer = new.buffer }
 
--- the body with this number of the session at a port went out
+-- outstanding body `number` of the session at `port` went out
 abbrev pub Carries : Control → ℕ → EndId → ℕ → List BytesOut → List BytesOut → Type 0
 Carries control port peer number before after =
     (switch : SwitchOf) → Stands control switch
     → after ≡ before
     ++ all_spelled (map (carried_to switch port peer) (put_out (switch.sendings port) (Some number)))
 
--- the core has versions left for a window of bodies
+-- there is a core, which has versions left for a window of bodies
 abbrev pub HasAccepting : Option CoreOf → Type 0
 HasAccepting core = (found : CoreOf) × (core ≡ Some found) × (found.version + 8 ≤ 2 ^ 30)
 
--- a body came to a session, and the bodies that were accepted by it added what they add
+-- body `number` came to the session at `port`, and the bodies that this accepted added what they add
 pub record ReceivesBody (port number : ℕ) (body : Body) (old new : Control) (before after : List OnPort)
     (answer : Bool) : Type 0 where
   pub stands : (switch : SwitchOf) → Stands old switch → Stands new (receives port number body switch)
@@ -102,12 +102,12 @@ pub record ReceivesBody (port number : ℕ) (body : Body) (old new : Control) (b
       → answer ≡ is_acknowledged (verdict number body (switch.receivings port))
   pub joined : is_some new.core ≡ true
 
--- a wanted body that the receiver of a port has taken was accepted, and each held one that follows it
+-- the bodies that are accepted by a wanted body which a receiver has taken: that body, and the held ones after it
 abbrev pub in_turn : Body → Receiving → List Body
 in_turn body receiving = body ∷ drop (last receiving) (follow_all 7 receiving).accepted
 
--- They were accepted in the core and in the session of the port, and what they add was added to what is to be
--- pushed.
+-- a wanted body and the held ones after it were accepted in the core and in the session of `port`, and the bodies
+-- that they add were appended to what is to be pushed
 pub record AcceptsInTurn (port : ℕ) (body : Body) (old new : CoreOf)
     (old_sessions new_sessions : Sessions) (before after : List OnPort) : Type 0 where
   pub core : (log : Log) (sendings : ℕ → Sending) (receivings : ℕ → Receiving) → StandsFor old log
@@ -121,23 +121,23 @@ pub record AcceptsInTurn (port : ℕ) (body : Body) (old new : CoreOf)
       → AreSessions old_sessions sendings receivings
       → after ≡ before ++ all_added old.card port (in_turn body (receivings port)) log
 
--- the acknowledgement of what was accepted at a port goes out
+-- the step that sends the acknowledgement of what was accepted at a port
 abbrev pub answered : ℕ → EndId → SwitchOf → Step
 answered port peer switch =
     record { switch = switch; frames = ack_to switch port peer (last (switch.receivings port)) ∷ [] }
 
--- each port was sampled, and the probes went out
+-- the step that samples each port, and sends the probes
 abbrev pub probed : ℕ → List Sample → SwitchOf → Step
 probed now samples switch =
     record { switch = sampled_by now samples switch; frames = probes (sampled_by now samples switch) }
 
--- so many clocks and frames, and so many frames with a body in the epoch, lead to what is kept
+-- `control` represents a switch after `works` clock events and frames, `carried` of them with a body in its epoch
 pub record HasState (works carried : ℕ) (control : Control) : Type 0 where
   pub switch : SwitchOf
   pub stands : Stands control switch
   pub sound : IsSoundBy works carried switch
 
--- the switch works, and its numbers are far from their ends
+-- the epochs of the switch are not spent, and its numbers are far from their limits
 pub record HasRoom (control : Control) : Type 0 where
   pub works : ℕ
   pub carried : ℕ
@@ -148,20 +148,21 @@ pub record HasRoom (control : Control) : Type 0 where
   pub stands : Stands control switch
   pub sound : IsSoundBy works carried switch
 
--- what a switch becomes by such a body and those that follow it
+-- the switch after it has accepted a wanted body at `port`, and the held ones after it
 abbrev pub accepting : ℕ → Body → SwitchOf → SwitchOf
 accepting port body switch =
     accepts port (in_turn body (switch.receivings port))
     (record switch { receivings = at_port port (follow_all 7 (switch.receivings port)) switch.receivings })
 
--- What is kept of the whole switch became that, and what they add was added to what is to be pushed.
+-- a wanted body and the held ones after it were accepted at `port`, and the bodies that they add were appended to what
+-- is to be pushed
 pub record Accepts (port : ℕ) (body : Body) (old new : Control) (before after : List OnPort) : Type 0 where
   pub stands : (switch : SwitchOf) → Stands old switch → Stands new (accepting port body switch)
   pub sends : (switch : SwitchOf) → Stands old switch
       → after ≡ before ++ all_added switch.card port (in_turn body (switch.receivings port)) switch.log
   pub joined : is_some new.core ≡ true
 
--- a clock came to a switch; it is answered whether a change is due that no epoch is left for, and then the
+-- a clock event came to `switch`, and `spent` says whether a change is due for which no epoch is left; if one is, the
 -- frames are to be dropped
 pub record IsClocked (now : ℕ) (samples : List Sample) (switch : SwitchOf) (new : Control)
     (before after : List BytesOut) (spent : Bool) : Type 0 where
@@ -169,7 +170,8 @@ pub record IsClocked (now : ℕ) (samples : List Sample) (switch : SwitchOf) (ne
   pub stands : Stands new (clocked now samples switch).switch
   pub out : spent ≡ false → after ≡ before ++ all_spelled (clocked now samples switch).frames
 
--- so of each switch for which the old one stood
+-- a clock event came to each switch that `old` represented, and `spent` says whether a change is due for which no epoch
+-- is left
 abbrev pub Clocks : ℕ → List Sample → Control → Control → List BytesOut → List BytesOut → Bool → Type 0
 Clocks now samples old new before after spent =
     (switch : SwitchOf) → Stands old switch → IsClocked now samples switch new before after spent

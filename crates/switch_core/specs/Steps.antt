@@ -1,4 +1,4 @@
--- What a switch does with a frame, a clock or a load: what it becomes, and the frames that go out, in their
+-- What a switch does with a frame, a clock event or a load: what it becomes, and the frames that go out, in
 -- order.
 
 use Rattle.std.specs.Prelude.{ℕ, suc, zero, ◌-◌, ◌==◌, ◌&&◌, ◌||◌, nat_lt, not, List, [], ◌∷◌, ◌++◌, map, slice_index_or, Option, Some, None, is_some, Bool, true, false, if◌then◌else◌}
@@ -23,21 +23,21 @@ use Rattle.epoch_core.specs.Log.{CardOf, OnPort, Log}
 use Rattle.epoch_core.specs.Epoch.{finish, adds}
 use Rattle.switch_core.specs.Switch.{SwitchOf, at_port, card_of, end_at, port_of, good_links, counts}
 
--- a frame, and the port by which it goes out
+-- a frame, and the port on which it goes out
 pub record Sent : Type 0 where
   pub port : ℕ
   pub frame : Frame
 
--- what a switch becomes, and the frames that go out, in their order
+-- what a switch becomes, and the frames that go out, in order
 pub record Step : Type 0 where
   pub switch : SwitchOf
   pub frames : List Sent
 
--- nothing happens
+-- the step without any effect
 abbrev pub still : SwitchOf → Step
 still switch = record { switch = switch; frames = [] }
 
--- one thing after another
+-- one step after another
 abbrev pub after : Step → Step → Step
 after first next = record { switch = next.switch; frames = first.frames ++ next.frames }
 
@@ -46,7 +46,7 @@ abbrev pub peer_among : List PeerAt → ℕ → Option EndId
 peer_among [] port = None
 peer_among (link ∷ links) port = if link.port == port then Some link.peer else peer_among links port
 
--- a body goes out in its session
+-- a body of the session at `port`, on its way to `peer`
 abbrev pub carried_to : SwitchOf → ℕ → EndId → Numbered → Sent
 carried_to switch port peer item =
     record {
@@ -60,7 +60,7 @@ carried_to switch port peer item =
       });
     }
 
--- the session at a port sends on, and these bodies go out to its peer
+-- the step that makes `sending` the sender at `port`, and sends these bodies to its peer
 abbrev pub sends_on : ℕ → EndId → Sending → List Numbered → SwitchOf → Step
 sends_on port peer sending items switch =
     record {
@@ -68,7 +68,7 @@ sends_on port peer sending items switch =
       frames = map (carried_to switch port peer) items;
     }
 
--- A body is pushed in the session of its port, and goes out at once if the window lets it. A port without
+-- the step that pushes a body in the session of its port, and sends it at once if the window permits; a port without
 -- a link has no session
 abbrev pub pushed_to : Option EndId → OnPort → SwitchOf → Step
 pushed_to None item switch = still switch
@@ -78,15 +78,17 @@ pushed_to (Some peer) item switch =
     (sent_by_push item.body (switch.sendings item.port)))
     switch
 
+-- the step that pushes a body in the session of its port
 abbrev pub pushed : OnPort → SwitchOf → Step
 pushed item switch = pushed_to (peer_among switch.card.links item.port) item switch
 
+-- the step that pushes bodies, in order
 abbrev pub all_pushed : List OnPort → SwitchOf → Step
 all_pushed [] switch = still switch
 all_pushed (item ∷ items) switch = after (pushed item switch) (all_pushed items (pushed item switch).switch)
 
--- An epoch is joined with the present good links: the sessions begin anew, and a load that was due is due no
--- more. A life without links finishes at once, which makes a load due
+-- the switch that has joined an epoch with its current good links: the sessions restart, and a load that was due is
+-- due no more; a life without links finishes at once, which makes a load due
 abbrev pub begun : ℕ → SwitchOf → SwitchOf
 begun epoch switch =
     record switch {
@@ -99,31 +101,32 @@ begun epoch switch =
       load_due = is_some (finish (card_of switch.life switch.number (good_links switch)) []);
     }
 
--- the epoch is joined, and what the life adds before any body was accepted is pushed
+-- the step that joins an epoch, and pushes what the life adds before any body is accepted
 abbrev pub joins : ℕ → SwitchOf → Step
 joins epoch switch = all_pushed (adds (begun epoch switch).card []) (begun epoch switch)
 
--- the acknowledgement of all bodies that were accepted at a port
+-- the acknowledgement of all bodies up to `number`, on its way to `peer`
 abbrev pub ack_to : SwitchOf → ℕ → EndId → ℕ → Sent
 ack_to switch port peer number =
     record { port = port; frame = Ack switch.epoch (end_at switch port) peer number }
 
--- bodies are accepted in turn, and each adds what it adds
+-- the log after the bodies are accepted on `port`, one after another
 abbrev pub log_with : ℕ → List Body → Log → Log
 log_with port [] log = log
 log_with port (body ∷ bodies) log = log_with port bodies (record { port = port; body = body } ∷ log)
 
+-- the bodies that are added when the bodies are accepted on `port`, one after another
 abbrev pub all_added : CardOf → ℕ → List Body → Log → List OnPort
 all_added card port [] log = []
 all_added card port (body ∷ bodies) log =
     adds card (record { port = port; body = body } ∷ log)
     ++ all_added card port bodies (record { port = port; body = body } ∷ log)
 
--- a finish that was not there before makes a load due
+-- whether the life has finished by what was accepted between two logs
 abbrev pub finishes_by : CardOf → Log → Log → Bool
 finishes_by card before log = not (is_some (finish card before)) && is_some (finish card log)
 
--- a life that finishes by these bodies is to load a table
+-- the switch after it has accepted the bodies on `port`; if the life finishes by them, a load is due
 abbrev pub accepts : ℕ → List Body → SwitchOf → SwitchOf
 accepts port bodies switch =
     record switch {
@@ -131,7 +134,7 @@ accepts port bodies switch =
       load_due = switch.load_due || finishes_by switch.card switch.log (log_with port bodies switch.log);
     }
 
--- a body of the present epoch comes: the acknowledgement goes out, and then what the accepted bodies add
+-- the switch after body `number` of the current epoch came on `port`
 abbrev pub receives : ℕ → ℕ → Body → SwitchOf → SwitchOf
 receives port number body switch =
     accepts port (accepted_by number body (switch.receivings port))
@@ -139,20 +142,22 @@ receives port number body switch =
       receivings = at_port port (received number body (switch.receivings port)) switch.receivings;
     })
 
--- the acknowledgement, if one goes out, is of all that were accepted, those by this body among them
+-- the acknowledgement of all bodies accepted so far, including those accepted when body `number` came; none if that
+-- is too far ahead
 abbrev pub acks : ℕ → EndId → ℕ → Body → SwitchOf → List Sent
 acks port peer number body switch =
     if is_acknowledged (verdict number body (switch.receivings port))
     then ack_to switch port peer (last (received number body (switch.receivings port))) ∷ []
     else []
 
+-- the step for body `number` of the current epoch: the acknowledgement goes out, and then what the accepted bodies add
 abbrev pub answers_body : ℕ → EndId → ℕ → Body → SwitchOf → Step
 answers_body port peer number body switch =
     after (record { switch = switch; frames = acks port peer number body switch })
     (all_pushed (all_added switch.card port (accepted_by number body (switch.receivings port)) switch.log)
     (receives port number body switch))
 
--- a greater epoch is joined first, and a body of a lower one is nothing
+-- the step for a body: if its epoch is higher the switch joins that epoch first, and if it is lower nothing happens
 abbrev pub on_carry : ℕ → CarryOf → SwitchOf → Step
 on_carry port carry switch =
     if nat_lt switch.epoch carry.epoch
@@ -161,19 +166,19 @@ on_carry port carry switch =
     else if carry.epoch == switch.epoch then answers_body port carry.from carry.number carry.body switch
     else still switch
 
--- the first waiting body of a session goes out, if the window lets it, so many times
+-- the step that sends the first waiting body of a session, if the window permits
 abbrev pub sends_next : ℕ → EndId → SwitchOf → Step
 sends_next port peer switch =
     sends_on port peer (send_next switch.tick (switch.sendings port))
     (put_out (send_next switch.tick (switch.sendings port)) (next_to_send (switch.sendings port))) switch
 
+-- the step that sends waiting bodies of a session, up to a given number, as far as the window permits
 abbrev pub fills : ℕ → ℕ → EndId → SwitchOf → Step
 fills zero port peer switch = still switch
 fills (suc most) port peer switch =
     after (sends_next port peer switch) (fills most port peer (sends_next port peer switch).switch)
 
--- An acknowledgement of the present epoch: the bodies up to its number are acknowledged, and waiting ones go
--- out until the window is full
+-- the step that acknowledges the bodies up to `number`, and sends the first waiting one
 abbrev pub acknowledges : ℕ → EndId → ℕ → SwitchOf → Step
 acknowledges port peer number switch =
     sends_on port peer (acknowledge number switch.tick (switch.sendings port))
@@ -181,7 +186,8 @@ acknowledges port peer number switch =
     (sent_by_ack number (switch.sendings port)))
     switch
 
--- one of another epoch, or of a number that is not outstanding, is nothing
+-- the step for an acknowledgement: waiting bodies go out until the window is full; if it is of another epoch, or body
+-- `number` is not outstanding, nothing happens
 abbrev pub on_ack : ℕ → EndId → ℕ → ℕ → SwitchOf → Step
 on_ack port peer epoch number switch =
     if epoch == switch.epoch && is_outstanding number (switch.sendings port)
@@ -189,12 +195,12 @@ on_ack port peer epoch number switch =
     (fills 7 port peer (acknowledges port peer number switch).switch)
     else still switch
 
--- a probe is answered if the port speaks
+-- the answer to a probe, if there is one, on its way out on `port`
 abbrev pub answer_out : ℕ → Option Frame → List Sent
 answer_out port None = []
 answer_out port (Some frame) = record { port = port; frame = frame } ∷ []
 
--- a frame comes in by a port
+-- the step for a frame that comes on `port`
 abbrev pub framed : ℕ → Frame → SwitchOf → Step
 framed port (Carry carry) switch =
     if counts switch port carry.from carry.to then on_carry port carry switch else still switch
@@ -210,77 +216,85 @@ framed port (Reply from to nonce) switch =
     then still (record switch { ports = with_happening port (Replied from nonce) switch.ports })
     else still switch
 
--- A clock with a sample of each port. The probes go out by rising port
+-- the sample of `port`
 abbrev pub sample_at : List Sample → ℕ → Sample
 sample_at samples port = slice_index_or samples (port - 1) sample.Down
 
+-- the switch after its ports were sampled at tick `now`
 abbrev pub sampled_by : ℕ → List Sample → SwitchOf → SwitchOf
 sampled_by now samples switch =
     record switch { tick = now; ports = λ port. Sampled (sample_at samples port) ∷ switch.ports port }
 
+-- probe `nonce` of `port`, if there is one
 abbrev pub probe_out : SwitchOf → ℕ → Option ℕ → List Sent
 probe_out switch port None = []
 probe_out switch port (Some nonce) = record { port = port; frame = Probe (end_at switch port) nonce } ∷ []
 
+-- the last probe of `port`, if the port probes its far end
 abbrev pub probes_at : SwitchOf → ℕ → List Sent
 probes_at switch port = probe_out switch port (probe_of (port_of switch port))
 
+-- the last probes of all ports, in ascending order of port
 abbrev pub probes : SwitchOf → List Sent
 probes switch = flat_map (probes_at switch) externals
 
--- What is due is sent again, rising, in the session of each link
+-- the step that sends outstanding body `number` again on a link
 abbrev pub sends_again : PeerAt → ℕ → SwitchOf → Step
 sends_again link number switch =
     sends_on link.port link.peer (send_again number switch.tick (switch.sendings link.port))
     (put_out (switch.sendings link.port) (Some number)) switch
 
+-- the step that sends these outstanding bodies again on a link
 abbrev pub all_again : PeerAt → List ℕ → SwitchOf → Step
 all_again link [] switch = still switch
 all_again link (number ∷ numbers) switch =
     after (sends_again link number switch) (all_again link numbers (sends_again link number switch).switch)
 
+-- the step that sends again, on a link, the bodies that are due, in ascending order of number
 abbrev pub resends_on : PeerAt → SwitchOf → Step
 resends_on link switch = all_again link (due switch.tick (switch.sendings link.port)) switch
 
+-- the step that sends again, on each of these links, the bodies that are due
 abbrev pub all_resent : List PeerAt → SwitchOf → Step
 all_resent [] switch = still switch
 all_resent (link ∷ links) switch =
     after (resends_on link switch) (all_resent links (resends_on link switch).switch)
 
--- a change is due at a clock of a life that has not joined its epoch, and at a clock that changes the list of
--- good links
+-- whether two lists of links are equal
 abbrev pub are_same_links : List PeerAt → List PeerAt → Bool
 are_same_links links others = is_eq (slice_cmp link_cmp links others)
 
+-- whether a change is due at a clock event: the life has not joined its epoch, or the good links changed
 abbrev pub is_change_due : SwitchOf → SwitchOf → Bool
 is_change_due before switch =
     not before.joined || not (are_same_links (good_links before) (good_links switch))
 
--- 2^64 - 1
+-- the last epoch, 2^64 - 1
 abbrev pub last_epoch : ℕ
 last_epoch = 18446744073709551615
 
--- no epoch is left for a change
+-- whether a change is due for which no epoch is left
 abbrev pub is_spent_by : SwitchOf → SwitchOf → Bool
 is_spent_by before switch = is_change_due before switch && (switch.epoch == last_epoch)
 
--- after the probes, the next epoch is joined, or what is due is sent again
+-- the step after the probes: the switch joins the next epoch, if a change is due, or sends again what is due
 abbrev pub goes_on : SwitchOf → SwitchOf → Step
 goes_on before switch =
     if is_change_due before switch
     then joins (suc switch.epoch) switch
     else all_resent switch.card.links switch
 
--- if no epoch is left for a change, nothing goes out, and the epochs are spent
+-- the step from `before` for a clock event after which the ports are those of `switch`; if no epoch is left for a
+-- change that is due, no frame goes out, and the epochs are spent
 abbrev pub clocked_to : SwitchOf → SwitchOf → Step
 clocked_to before switch =
     if is_spent_by before switch then still (record switch { spent = true })
     else after (record { switch = switch; frames = probes switch }) (goes_on before switch)
 
--- a clock comes at this tick, with what the hardware says of each external port, by rising port
+-- the step for a clock event at tick `now`, with the hardware's samples of the external ports, in ascending order
 abbrev pub clocked : ℕ → List Sample → SwitchOf → Step
 clocked now samples switch = clocked_to switch (sampled_by now samples switch)
 
--- The table of what it has finished with is loaded, and its number is proposed from then on
+-- the switch after it has loaded the table for its topology; it proposes the table's number from then on
 abbrev pub loaded : ℕ → SwitchOf → SwitchOf
 loaded number switch = record switch { number = number; load_due = false }

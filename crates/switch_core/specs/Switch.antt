@@ -1,4 +1,4 @@
--- A switch in one life, by all that happened to it.
+-- A switch in one life, as a function of its history.
 
 use Rattle.std.specs.Prelude.{◌≡◌, ◌≢◌, ℕ, ◌==◌, ◌&&◌, nat_lt, List, [], map, length, Option, None, Bool, false, if◌then◌else◌}
 use Rattle.std.specs.List.{list_any}
@@ -13,11 +13,11 @@ use Rattle.ordered_link.specs.Receiving.{Receiving, untouched}
 use Rattle.epoch_core.specs.Log.{CardOf, Log}
 use Rattle.epoch_core.specs.Epoch.{finish}
 
--- What it ever needs of what happened to it: who it is, and whether its tables have all legal routes or the
--- least ones alone; what happened at each port; the epoch, and whether the life has joined it; with what it
--- joined, and what it accepted since, the newest first; at each port the two directions of the session of
--- this epoch; the number of the table that it loaded last, else the one that it had before; whether it is to
--- load a table; the tick of its last clock; and whether its epochs are spent.
+-- what the switch depends on: its life, and whether its tables have all legal routes or only the shortest ones; the
+-- events at each port; the epoch, and whether the life has joined it; the card that it joined with, and the bodies
+-- that it accepted since, the newest first; at each port the two directions of the session of this epoch; the number of
+-- the table that it loaded last, or the one that it had before; whether a load is due; the tick of its last clock
+-- event; and whether its epochs are spent
 pub record SwitchOf : Type 0 where
   pub life : LifeId
   pub any : Bool
@@ -33,11 +33,11 @@ pub record SwitchOf : Type 0 where
   pub tick : ℕ
   pub spent : Bool
 
--- the card with which a life joins an epoch
+-- the card that a life joins an epoch with
 abbrev pub card_of : LifeId → ℕ → List PeerAt → CardOf
 card_of me proposed links = record { me = me; proposed = proposed; links = links }
 
--- at power-on, in an epoch that it has not joined
+-- the switch at power-on, in an epoch that it has not joined
 abbrev pub started : LifeId → ℕ → ℕ → Bool → SwitchOf
 started life epoch had any = record {
   life = life;
@@ -55,7 +55,7 @@ started life epoch had any = record {
   spent = false;
 }
 
--- what it is started with: its life, an epoch, the number that it had before, and whether its tables have all
+-- what a switch is started with: its life, an epoch, the number that it had before, and whether its tables have all
 -- legal routes
 pub record StartOf : Type 0 where
   pub life : LifeId
@@ -63,38 +63,40 @@ pub record StartOf : Type 0 where
   pub had : ℕ
   pub any : Bool
 
+-- the switch that was started with this
 abbrev pub started_as : StartOf → SwitchOf
 started_as start = started start.life start.epoch start.had start.any
 
--- the value at one port, and the others as they were
+-- `values` with `value` at `port`
 abbrev pub at_port : {A : Type 0} → ℕ → A → (ℕ → A) → ℕ → A
 at_port port value values other = if other == port then value else values other
 
--- its end of the link at a port
+-- the end of the switch at `port`
 abbrev pub end_at : SwitchOf → ℕ → EndId
 end_at switch port = record { life = switch.life; port = port }
 
--- what a port is after what happened there
+-- the state of a port after all that happened there
 abbrev pub port_of : SwitchOf → ℕ → Port
 port_of switch port = port_after (end_at switch port) (switch.ports port)
 
--- the external ports, rising
+-- the external ports, in ascending order
 abbrev pub ports_of : SwitchOf → List Port
 ports_of switch = map (port_of switch) externals
 
--- its good links, rising
+-- the good links, in ascending order of port
 abbrev pub good_links : SwitchOf → List PeerAt
 good_links switch = links_after switch.life switch.ports
 
--- the other end of a good link
+-- the far end of the good link at `port`, if it is good
 abbrev pub good_peer : SwitchOf → ℕ → Option EndId
 good_peer switch port = good_peer_by (port_of switch port).phase (port_of switch port).far.conn
 
--- a frame of a session counts if the port is good, its peer sent the frame, and this end is meant
+-- whether a frame of a session from end `from` to end `to` counts: its port is good, its sender is the port's peer, and
+-- it is meant for this end
 abbrev pub counts : SwitchOf → ℕ → EndId → EndId → Bool
 counts switch port from to = is_end (good_peer switch port) from && is_same_end to (end_at switch port)
 
--- what it has finished with in its present epoch
+-- the topology that the switch has finished with in its current epoch, if it has finished
 abbrev pub finish_of : SwitchOf → Option TopoOf
 finish_of switch = if switch.joined then finish switch.card switch.log else None
 
@@ -102,16 +104,17 @@ finish_of switch = if switch.joined then finish switch.card switch.log else None
 abbrev pub is_unacked : Sending → Bool
 is_unacked sending = nat_lt sending.acked (length sending.pushed)
 
--- All that came between the one and the other came by this port: the life is the same, and nothing happened
--- at the other ports
+-- all that came between `before` and `after` came on `port`: the life is the same, and nothing happened at the other
+-- ports
 pub record CameBy (port : ℕ) (before after : SwitchOf) : Type 0 where
   pub life : after.life ≡ before.life
   pub others : (other : ℕ) → other ≢ port → after.ports other ≡ before.ports other
 
--- what it shows of itself
+-- what the switch shows of a port
 abbrev pub view_of : Port → PortViewOf
 view_of port = record { state = state_of port; peer = peer_of port }
 
+-- what the switch shows of itself
 abbrev pub note_of : SwitchOf → NoteOf
 note_of switch = record {
   life = switch.life;

@@ -1,4 +1,4 @@
-//! What a switch keeps, and what it does with what comes in.
+//! What a switch keeps, and how it processes frames, clock events and loads.
 
 ghost use Rattle.std.specs.Prelude.{◌≡◌, ◌+◌, ◌<◌, ◌≤◌, ◌^◌, ◌∷◌, ◌++◌, [], ℕ, None, Some, map, IfOk, IfSome, IsSome, OnErr, OnOk, option_copied, ◌-◌, List, true, false, not, is_some, ◌||◌};
 ghost use Rattle.an_base.specs.declared.limits.TheConstants.{LAST_PORT};
@@ -18,8 +18,8 @@ use an_base::body::{Body, TopoBody};
 use an_base::frame::{CarryFrame, Frame};
 use an_base::life::{End, Life};
 use an_base::links::{Links, PortLink};
-use an_base::memory::OutOfMemory;
 use an_base::port::{Note, PortState, PortView, Ports, Sample};
+use common_values::memory::OutOfMemory;
 use epoch_core::epoch::Core;
 use epoch_core::sends::{Outgoing, Sends};
 use frame_codec::reading::{DecodeRefusal, decode};
@@ -32,14 +32,14 @@ use std::alloc::Global;
 use table_build::table::Table;
 use topo_graph::graph::Graph;
 
-/// What a switch keeps of what happened to it.
+/// What a switch keeps of its history.
 #[derive(Drop)]
 pub struct Control {
-    /// The allocator of what it makes.
+    /// The allocator of all that it makes.
     pub alloc: Global,
     /// The life of the switch.
     pub life: Life,
-    /// Whether its tables have all legal routes, and not the least alone.
+    /// Whether its tables have all legal routes, not only the shortest ones.
     pub any: bool,
     /// The states of its ports.
     pub monitor: Monitor,
@@ -47,48 +47,48 @@ pub struct Control {
     pub epoch: u64,
     /// What it knows of that epoch, once it has joined one.
     pub core: Option<Core>,
-    /// The good links, as it joined with them.
+    /// The good links that it joined the epoch with.
     pub links: Links,
     /// The sessions over its links.
     pub sessions: Sessions,
-    /// The number that it had last.
+    /// The number that it had last, which it proposes when it joins.
     pub number: u8,
-    /// Whether it has finished and is to load a table.
+    /// Whether it has finished, and a load of its table is due.
     pub load_due: bool,
-    /// The tick of the last clock.
+    /// The tick of the last clock event.
     pub tick: u64,
-    /// Whether its epochs are spent.
+    /// Whether its epochs are spent: a change is due and no epoch is left for it.
     pub spent: bool,
-    /// The bytes in which it writes a frame.
+    /// The buffer in which it encodes a frame.
     pub buffer: FrameBuf,
 }
 
 /// What a switch is started with.
 #[derive(Clone, Copy)]
 pub struct PowerOn {
-    /// The life that it begins.
+    /// The life that it starts.
     pub life: Life,
-    /// The epoch that it is in, which it has not joined.
+    /// The epoch that it is in, but has not joined.
     pub epoch: u64,
     /// The number that it had before, 1 to 126.
     pub had: u8,
-    /// Whether its tables are to have all legal routes, else the least ones alone.
+    /// Whether its tables are to have all legal routes, not only the shortest ones.
     pub any: bool,
 }
 
-/// What bytes that come in are.
+/// The kind of bytes that came in.
 #[derive(Clone, Copy)]
 pub enum Arrival {
-    /// No frame.
+    /// They are no frame.
     NoFrame,
-    /// A frame that carries no body.
+    /// They are a frame without a body.
     Bodiless,
-    /// A frame that carries a body.
+    /// They are a frame with a body.
     Body,
 }
 
 impl Arrival {
-    // What the bytes of a frame are.
+    // The kind of the bytes of a frame.
     fn of(frame: &Frame) -> Self
         ensures frame { is_noframe result ≡ false }
         ensures bodies { bodies result ≡ carries frame.now }
@@ -99,7 +99,7 @@ impl Arrival {
         }
     }
 
-    /// Whether they are no frame.
+    /// Reports whether the bytes are no frame.
     pub fn is_noframe(self) -> bool
         ensures { result ≡ is_noframe self }
     {
@@ -109,7 +109,7 @@ impl Arrival {
         }
     }
 
-    /// How many bodies they carry, one at most.
+    /// Returns the number of bodies in the bytes, at most one.
     pub fn bodies(self) -> u32
         ensures bodies { result ≡ bodies self }
         ensures few { result ≤ 1 }
@@ -135,7 +135,10 @@ fn peer_of(links: &Links, port: u8) -> Option<End>
 }
 
 impl Control {
-    /// At power-on, with the memory in which frames are spelled.
+    /// Creates a switch at power-on, with a buffer in which frames are encoded.
+    ///
+    /// # Errors
+    /// `OutOfMemory` if an allocation fails.
     pub fn start(alloc: Global, on: &PowerOn) -> Result<Control, OutOfMemory>
         ensures { IfOk result (λ control. Stands control (started on.now.life on.now.epoch on.now.had on.now.any)) }
     {
@@ -156,7 +159,7 @@ impl Control {
         })
     }
 
-    /// As at power-on again, without taking memory.
+    /// Resets the switch to power-on, without allocating.
     pub fn restart(&mut self, on: &PowerOn)
         ensures { Stands self.new (started on.now.life on.now.epoch on.now.had on.now.any) }
     {
@@ -183,7 +186,7 @@ impl Control {
         End::new(self.life, port)
     }
 
-    // Puts a frame out by a port.
+    // Sends a frame on a port.
     fn put(&mut self, port: u8, frame: &Frame, out: &mut Frames) -> Result<(), OutOfMemory>
         requires least { 1 ≤ port }
         requires most { port ≤ LAST_PORT }
@@ -195,7 +198,7 @@ impl Control {
         Ok(())
     }
 
-    // Puts out the outstanding body with this number of the session at a port.
+    // Sends outstanding body `k` of the session at a port.
     fn carry(&mut self, port: u8, peer: End, k: u32, out: &mut Frames) -> Result<(), OutOfMemory>
         requires least { 1 ≤ port }
         requires most { port ≤ LAST_PORT }
@@ -214,7 +217,7 @@ impl Control {
         Ok(())
     }
 
-    // Pushes a body in the session of its port, and puts it out if the window lets it.
+    // Pushes a body in the session of its port, and sends it if the window permits.
     fn push(&mut self, outgoing: Outgoing, out: &mut Frames) -> Result<(), OutOfMemory>
         requires { HasNumbers self.old (outgoing ∷ []) }
         ensures { OnOk result (Does (pushed outgoing) self.old self.new out.old out.new) }
@@ -240,7 +243,7 @@ impl Control {
         Ok(())
     }
 
-    // Joins an epoch with the present good links.
+    // Joins an epoch with the current good links.
     fn join(&mut self, epoch: u64, out: &mut Frames) -> Result<(), OutOfMemory>
         requires { MayJoin self.old }
         ensures { OnOk result (Does (joins epoch) self.old self.new out.old out.new) }
@@ -264,7 +267,7 @@ impl Control {
         Ok(())
     }
 
-    // Puts out waiting bodies of the session at a port until its window is full.
+    // Sends waiting bodies of the session at a port until its window is full.
     fn fill(&mut self, port: u8, peer: End, out: &mut Frames) -> Result<(), OutOfMemory>
         requires least { 1 ≤ port }
         requires most { port ≤ LAST_PORT }
@@ -279,7 +282,7 @@ impl Control {
         Ok(())
     }
 
-    // An acknowledgement comes from the peer of a good port.
+    // Processes an acknowledgement by the peer of a good port.
     fn on_ack(
         &mut self,
         port: u8,
@@ -302,7 +305,7 @@ impl Control {
         Ok(())
     }
 
-    // Accepts a wanted body that came by a port, and each held one that follows it.
+    // Accepts a wanted body that came on a port, and each held one that follows it.
     fn accept(&mut self, port: u8, body: Body, sends: &mut Sends) -> Result<(), OutOfMemory>
         requires least { 1 ≤ port }
         requires most { port ≤ LAST_PORT }
@@ -320,8 +323,8 @@ impl Control {
         Ok(())
     }
 
-    // A body comes to the session at a port; the bodies that are accepted by it add what they add to
-    // the sends. Answers whether it is acknowledged.
+    // Receives a body in the session at a port, and appends to `sends` what the bodies that this accepts add. Returns
+    // whether the body is acknowledged.
     fn receive(
         &mut self,
         port: u8,
@@ -361,7 +364,7 @@ impl Control {
         Ok(())
     }
 
-    // A body of the present epoch comes from the peer of a good port.
+    // Processes a body of the current epoch by the peer of a good port.
     fn answer_body(
         &mut self,
         port: u8,
@@ -384,7 +387,7 @@ impl Control {
         Ok(())
     }
 
-    // A body comes from the peer of a good port. A greater epoch is joined first.
+    // Processes a body by the peer of a good port. If its epoch is higher, the switch joins that epoch first.
     fn on_carry(&mut self, port: u8, carry: CarryFrame, out: &mut Frames) -> Result<(), OutOfMemory>
         requires least { 1 ≤ port }
         requires most { port ≤ LAST_PORT }
@@ -402,7 +405,7 @@ impl Control {
         Ok(())
     }
 
-    // Whether a frame of a session counts that came by a port.
+    // Reports whether a frame of a session that came on a port counts.
     fn counts(&self, port: u8, from: End, to: End) -> bool
         requires least { 1 ≤ port }
         requires most { port ≤ LAST_PORT }
@@ -414,7 +417,7 @@ impl Control {
         self.monitor.peer(port) == Some(from) && to == self.end_at(port)
     }
 
-    // A probe comes by a port.
+    // Processes a probe that came on a port.
     fn on_probe(
         &mut self,
         port: u8,
@@ -432,7 +435,7 @@ impl Control {
         Ok(())
     }
 
-    // A reply comes by a port.
+    // Processes a reply that came on a port.
     fn on_reply(&mut self, port: u8, from: End, to: End, nonce: u64)
         requires least { 1 ≤ port }
         requires most { port ≤ LAST_PORT }
@@ -443,7 +446,12 @@ impl Control {
         }
     }
 
-    /// A frame comes by a port, 1 to 12.
+    /// Processes a frame that came on `port`, 1 to 12, and appends the frames to be sent to `out`.
+    ///
+    /// The numbers of the switch must be far from their limits, and its epochs not spent (`HasRoom`).
+    ///
+    /// # Errors
+    /// `OutOfMemory` if an allocation fails. The switch and `out` are then unspecified; call `restart`.
     pub fn on_frame(&mut self, port: u8, frame: Frame, out: &mut Frames) -> Result<(), OutOfMemory>
         requires least { 1 ≤ port }
         requires most { port ≤ LAST_PORT }
@@ -471,7 +479,13 @@ impl Control {
         }
     }
 
-    /// Bytes come by a port, 1 to 12. Answers what they are.
+    /// Processes bytes that came on `port`, 1 to 12, puts the frames to be sent into the empty `out`, and
+    /// returns the kind of the bytes.
+    ///
+    /// The numbers of the switch must be far from their limits, and its epochs not spent (`HasRoom`).
+    ///
+    /// # Errors
+    /// `OutOfMemory` if an allocation fails. The switch and `out` are then unspecified; call `restart`.
     pub fn handle(
         &mut self,
         bytes: &[u8],
@@ -500,7 +514,7 @@ impl Control {
         }
     }
 
-    // One clock at each port: its sample, and the probe that goes out.
+    // Processes the samples of a clock event, and sends the probes.
     fn sample(
         &mut self,
         now: u64,
@@ -537,7 +551,7 @@ impl Control {
         Ok(())
     }
 
-    // Sends again what is due in the session of each link, rising.
+    // Sends again what is due in the session of each link, in ascending order of port.
     fn resend_all(&mut self, out: &mut Frames) -> Result<(), OutOfMemory>
         requires { HasWindows self.old }
         ensures { OnOk result (Does (λ s. all_resent s.card.links s) self.old self.new out.old out.new) }
@@ -549,7 +563,7 @@ impl Control {
         Ok(())
     }
 
-    // Whether a change is due: at the first clock, or if the good links are others than these.
+    // Reports whether a change is due: at the first clock event, or if the good links differ from `before`.
     fn is_change_due(&self, before: &Links) -> bool
         ensures { (s : SwitchOf) → Stands self.now s → result ≡ (not s.joined || not (are_same_links before.now (good_links s))) }
     {
@@ -559,8 +573,13 @@ impl Control {
         before.as_slice() != self.monitor.good_links().as_slice()
     }
 
-    /// A clock at this tick, with a sample of each port. Answers whether a change is due that no epoch
-    /// is left for.
+    /// Processes a clock event at tick `now` with a sample of each port, and appends the frames to be sent.
+    ///
+    /// Returns whether a change is due for which no epoch is left. The numbers of the switch must be far from
+    /// their limits, and its epochs not spent (`HasRoom`).
+    ///
+    /// # Errors
+    /// `OutOfMemory` if an allocation fails. The switch and `out` are then unspecified; call `restart`.
     pub fn clock(
         &mut self,
         now: u64,
@@ -585,14 +604,14 @@ impl Control {
         Ok(false)
     }
 
-    /// What the life has finished with in its present epoch, if it has.
+    /// Returns the topology that the life has finished with in its current epoch, if it has finished.
     pub fn finish(&self) -> Option<&TopoBody>
         ensures { (s : SwitchOf) → Stands self.now s → option_copied result ≡ finish_of s }
     {
         self.core.as_ref()?.finish()
     }
 
-    // What a port is taken to be.
+    // The state and the peer of a port.
     fn view(&self, port: u8) -> PortView
         requires least { 1 ≤ port }
         requires most { port ≤ LAST_PORT }
@@ -604,7 +623,7 @@ impl Control {
         }
     }
 
-    // Sets what each port is taken to be.
+    // Sets the state and the peer of each port.
     fn show_ports(&self, ports: &mut Ports)
         ensures { (s : SwitchOf) → Stands self.now s → ports.new ≡ map view_of (ports_of s) }
     {
@@ -614,7 +633,7 @@ impl Control {
         }
     }
 
-    /// Sets a note to what the switch shows of itself.
+    /// Sets `note` to what the switch shows of itself.
     pub fn show(&self, note: &mut Note)
         ensures { (s : SwitchOf) → Stands self.now s → note.new ≡ note_of s }
     {
@@ -625,7 +644,7 @@ impl Control {
         note.unacked = self.sessions.is_unacked();
     }
 
-    /// Sets a note of what the switch showed before something came by a port, 1 to 12, to what it shows
+    /// Updates `note` from what the switch showed before something came on `port`, 1 to 12, to what it shows
     /// now.
     pub fn show_port(&self, port: u8, note: &mut Note)
         requires least { 1 ≤ port }
@@ -638,7 +657,7 @@ impl Control {
         note.unacked = self.sessions.is_unacked();
     }
 
-    /// What the switch shows of itself, without taking memory.
+    /// Returns what the switch shows of itself, without allocating.
     pub fn note(&self) -> Note
         ensures { (s : SwitchOf) → Stands self.now s → result ≡ note_of s }
     {
@@ -653,7 +672,12 @@ impl Control {
         note
     }
 
-    /// Loads the table of what the life has finished with. After want of memory nothing has changed.
+    /// Returns the table for the topology that the life has finished with, and takes its number from it.
+    ///
+    /// A load must be due, and the switch sound (`HasState`).
+    ///
+    /// # Errors
+    /// `OutOfMemory` if an allocation fails. The switch is then unchanged.
     pub fn load(&mut self) -> Result<Table, OutOfMemory>
         requires state { (works carried : ℕ) × HasState works carried self.old }
         requires due { self.old.load_due ≡ true }
@@ -670,7 +694,7 @@ impl Control {
     }
 }
 
-// The external ports, rising.
+// The external ports, in ascending order.
 const EXTERNALS: [u8; 12] = [1, 2, 3, 4, 5, 6, 7, 8, 9, 10, 11, 12];
 
 // Accepts a body, and each held one that follows it, in the order of their numbers.

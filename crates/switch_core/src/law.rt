@@ -1,4 +1,4 @@
-//! What holds of one switch, whatever comes to it. No function here has code.
+//! Theorems about one switch, for all that happens to it. No function here has code.
 
 ghost use Rattle.std.specs.Prelude.{◌≡◌, ◌≢◌, ◌⊎◌, ◌+◌, ◌<◌, ◌≤◌, ℕ, List, [], ◌∷◌, All, None, Some, false};
 ghost use Rattle.an_base.specs.declared.limits.TheConstants.{LAST_PORT, MOST_NUMBER};
@@ -16,8 +16,7 @@ ghost use Rattle.switch_core.specs.Sound.{IsSound, IsSoundBy, carries, counted};
 ghost use Rattle.switch_core.specs.Going.{IsSentBy};
 ghost use Rattle.switch_core.specs.Steps.{clocked, framed, joins, loaded, peer_among, still};
 
-/// The epoch never falls: not by a frame, nor by a clock, which raises it by one at most; a load
-/// leaves it.
+/// The epoch never decreases. A clock event raises it by at most one, and a load does not change it.
 pub fn an_epoch_never_falls()
     ensures frame { (port : ℕ) (frame : Frame) (s : SwitchOf) → s.epoch ≤ (framed port frame s).switch.epoch }
     ensures clock { (now : ℕ) (samples : List Sample) (s : SwitchOf)
@@ -27,8 +26,9 @@ pub fn an_epoch_never_falls()
     ensures load { (number : ℕ) (s : SwitchOf) → (loaded number s).epoch ≡ s.epoch }
 {}
 
-/// An acknowledgement changes nothing but what is sent at its port, so no switch joins an epoch by
-/// it. One of another epoch, be it lower or greater, changes nothing, and nothing goes out.
+/// An acknowledgement changes only what is sent on its port, so it never makes a switch join an epoch.
+///
+/// One of another epoch, lower or higher, changes nothing, and no frame goes out.
 pub fn an_acknowledgement_never_makes_it_join()
     ensures rest { (port epoch n : ℕ) (from to : EndId) (s : SwitchOf)
         → (framed port (Ack epoch from to n) s).switch ≡ record s { sendings = (framed port (Ack epoch from to n) s).switch.sendings } }
@@ -38,7 +38,7 @@ pub fn an_acknowledgement_never_makes_it_join()
         → framed port (Ack epoch from to n) s ≡ still s }
 {}
 
-/// A body or an acknowledgement of a lower epoch changes nothing, and nothing goes out.
+/// A body or an acknowledgement of a lower epoch changes nothing, and no frame goes out.
 pub fn a_frame_of_a_lower_epoch_changes_nothing()
     ensures body { (port : ℕ) (f : CarryOf) (s : SwitchOf) → f.epoch < s.epoch
         → framed port (Carry f) s ≡ still s }
@@ -46,10 +46,11 @@ pub fn a_frame_of_a_lower_epoch_changes_nothing()
         → framed port (Ack epoch from to n) s ≡ still s }
 {}
 
-/// A switch joins an epoch with its present good links, and all sessions begin anew: nothing was
-/// accepted, nothing came and nothing is acknowledged, and what was pushed is what joining adds, on
-/// each good link the position of a root and nothing else. If the epoch is greater than that of a
-/// session before, no frame of that session changes anything, and nothing goes out by one.
+/// A switch that joins an epoch does so with its current good links, and restarts all sessions.
+///
+/// Nothing is accepted, received or acknowledged in them. Only the bodies that joining adds are pushed:
+/// on each good link, the position of a root. A body or an acknowledgement of an epoch lower than the
+/// one joined then changes nothing, and no frame goes out.
 pub fn a_join_begins_all_sessions_anew()
     ensures epoch { (epoch : ℕ) (s : SwitchOf) → (joins epoch s).switch.epoch ≡ epoch }
     ensures card { (epoch : ℕ) (s : SwitchOf)
@@ -71,8 +72,8 @@ pub fn a_join_begins_all_sessions_anew()
         → framed port (Ack older from to n) (joins epoch s).switch ≡ still (joins epoch s).switch }
 {}
 
-/// A body or an acknowledgement that comes by a port that is not good, that another end than the peer
-/// of the port sent, or that is for another end than this port, changes nothing, and nothing goes out.
+/// A body or an acknowledgement changes nothing, and no frame goes out, if it comes on a port that is
+/// not good, from another end than the peer of the port, or for another end than this port.
 pub fn an_uncounted_frame_changes_nothing()
     ensures body { (port : ℕ) (f : CarryOf) (s : SwitchOf)
         → (good_peer s port ≢ Some f.from) ⊎ (f.to ≢ end_at s port)
@@ -82,9 +83,10 @@ pub fn an_uncounted_frame_changes_nothing()
         → framed port (Ack epoch from to n) s ≡ still s }
 {}
 
-/// A switch is sound from its start on: each clock, each frame and each load of a number of 1 to 126 keeps it
-/// so. That bounds its numbers by how many clocks and frames came, and by how many frames with a body came in
-/// its epoch.
+/// A switch is sound from its start: every clock event, frame, and load of a number from 1 to 126 keeps it so.
+///
+/// Soundness bounds its numbers by the number of clock events and frames, and by the number of frames with a body
+/// in its epoch.
 pub fn a_switch_stays_sound()
     ensures start { (x : StartOf) → 1 ≤ x.had → x.had ≤ MOST_NUMBER → IsSoundBy 0 0 (started_as x) }
     ensures more { (works carried later most : ℕ) (s : SwitchOf) → works ≤ later → carried ≤ most
@@ -99,8 +101,9 @@ pub fn a_switch_stays_sound()
         → IsSoundBy works carried s → IsSoundBy works carried (loaded number s) }
 {}
 
-/// While its epochs are not spent, the links with which a switch joined its epoch are its good links.
-/// Before it has joined one it has none.
+/// While its epochs are not spent, the links that a switch joined its epoch with are its good links.
+///
+/// Before it has joined one, it has no good link.
 pub fn the_links_are_the_good_ones()
     ensures links { (works : ℕ) (s : SwitchOf) → IsSound works s → s.spent ≡ false
         → s.card.links ≡ good_links s }
@@ -110,9 +113,10 @@ pub fn the_links_are_the_good_ones()
         → good_peer s port ≡ None }
 {}
 
-/// What goes out goes out by a port that speaks to a switch, from this end. A body or an acknowledgement
-/// is of the present epoch, to the other end of the port's link: the body is the one that was pushed
-/// with its number, and no more is acknowledged than was accepted.
+/// Every frame goes out on a port that speaks to a switch, from the end of this switch there.
+///
+/// A body or an acknowledgement belongs to the current epoch, and goes to the other end of the port's link. The
+/// body is the one that was pushed with its number, and no body is acknowledged before it is accepted.
 pub fn what_goes_out_is_of_its_sessions()
     ensures frame { (works port : ℕ) (frame : Frame) (s : SwitchOf) → 1 ≤ port → port ≤ LAST_PORT
         → s.spent ≡ false → IsSound works s → All (IsSentBy (framed port frame s).switch) (framed port frame s).frames }
@@ -120,7 +124,7 @@ pub fn what_goes_out_is_of_its_sessions()
         → IsSound works s → All (IsSentBy (clocked now samples s).switch) (clocked now samples s).frames }
 {}
 
-/// What comes by a port changes nothing that is shown of another port: the life stays, and nothing happens
+/// A frame on one port changes nothing that the switch shows of another port: the life stays, and nothing happens
 /// at the other ports.
 pub fn a_frame_comes_by_its_port()
     ensures { (port : ℕ) (frame : Frame) (s : SwitchOf) → CameBy port s (framed port frame s).switch }

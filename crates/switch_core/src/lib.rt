@@ -1,9 +1,11 @@
-//! One switch: its ports, its epoch and its sessions, and what it does with a clock or a frame.
+//! autonet, switch: the control program of one switch.
 //!
-//! It stands on the frames, the sessions, the ports, one epoch and the tables. Its contract: a switch
-//! that stands for all that happened to it stands, after a clock, a frame or a load, for that with one
-//! more; and the frames that go out, in their order, what it shows of itself and the table are those of
-//! the definition.
+//! It joins the ports, the sessions and the epoch of a switch, and processes clock events, frames and loads.
+//!
+//! It depends on the ports, the sessions, one epoch, the encoding of frames, and routing tables. Its contract: a
+//! switch that represents a history represents, after a clock event, a frame or a load, that history with one more
+//! event. The frames that go out, in their order, what the switch shows of itself, and its table are as
+//! the definition says.
 #![tactic(auto)]
 
 mod control;

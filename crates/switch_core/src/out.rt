@@ -1,13 +1,13 @@
-//! What comes of a clock or a frame.
+//! The result of a clock event or a frame.
 
 ghost use Rattle.std.specs.Prelude.{◌≡◌, [], ◌∷◌, ◌++◌, ◌+◌, ◌<◌, ◌≤◌, false, take, length, All, OnErr, OnOk, IfOk};
 ghost use Rattle.switch_core.specs.Bytes.{IsFrameOut};
 
-use an_base::memory::OutOfMemory;
+use common_values::memory::OutOfMemory;
 use std::alloc::Global;
 use std::marker::Model;
 
-/// The bytes of a frame, and the port by which it goes out.
+/// The bytes of a frame, and the port on which it goes out.
 #[derive(Drop)]
 pub struct FrameOut {
     port: u8,
@@ -33,14 +33,14 @@ impl FrameOut {
         })
     }
 
-    /// The port by which the frame goes out, 1 to 12.
+    /// Returns the port on which the frame goes out, 1 to 12.
     pub fn port(&self) -> u8
         ensures { result ≡ self.now.port }
     {
         self.port
     }
 
-    /// The bytes of the frame.
+    /// Returns the bytes of the frame.
     pub fn bytes(&self) -> &[u8]
         ensures { result.now ≡ self.now.bytes }
     {
@@ -58,8 +58,10 @@ impl FrameOut {
     }
 }
 
-/// The frames that go out, in their order, which contracts see as a list. Each is the spelling of a
-/// frame, and its port is 1 to 12. Once emptied it keeps its memory for the frames that come.
+/// The frames that go out, in order; contracts see them as a list.
+///
+/// Each has the bytes of a frame and a port from 1 to 12. An emptied list keeps its memory for later
+/// frames.
 #[derive(Drop)]
 pub struct Frames {
     alloc: Global,
@@ -79,7 +81,7 @@ impl Model for Frames {
 }
 
 impl Frames {
-    /// No frames, without taking memory. The allocator is kept for what is added.
+    /// Creates an empty list, without allocating. It keeps `alloc` for the frames that are added.
     pub fn new(alloc: Global) -> Self
         ensures { result ≡ [] }
     {
@@ -90,7 +92,7 @@ impl Frames {
         }
     }
 
-    /// The frames in the order in which they go out.
+    /// Returns the frames in the order in which they go out.
     pub fn as_slice(&self) -> &[FrameOut]
         ensures all { result.now ≡ self.now }
         ensures frames { All IsFrameOut self.now }
@@ -98,14 +100,14 @@ impl Frames {
         &self.items[..self.len]
     }
 
-    // Lets no frame go out.
+    // Removes all frames.
     fn clear(&mut self)
         ensures { self.new ≡ [] }
     {
         self.len = 0;
     }
 
-    // Adds a frame at the end. If no memory is found nothing is added.
+    // Appends a frame. If the allocation fails, none is appended.
     pub(crate) fn push(&mut self, port: u8, bytes: &[u8]) -> Result<(), OutOfMemory>
         requires { IsFrameOut (record { port = port; bytes = bytes.now }) }
         ensures ok { OnOk result (self.new ≡ self.old ++ record { port = port; bytes = bytes.now } ∷ []) }
@@ -116,7 +118,7 @@ impl Frames {
     }
 }
 
-// Puts a frame at a place of the list, in place of an old one or at the end. Those before it stay.
+// Writes a frame at index `place` of the list, over an old one or at the end. Those before it stay.
 fn put_at(
     alloc: Global,
     items: &mut Vec<FrameOut>,
@@ -137,12 +139,12 @@ fn put_at(
     }
 }
 
-/// What comes of a clock or a frame.
+/// The result of a clock event or a frame.
 #[derive(Drop)]
 pub struct Out {
-    /// The frames that go out, in their order.
+    /// The frames that go out, in order.
     pub frames: Frames,
-    /// Whether what came in is no frame.
+    /// Whether the bytes that came in are no frame.
     pub noframe: bool,
 }
 
@@ -155,7 +157,7 @@ impl Model for Out {
 }
 
 impl Out {
-    /// Nothing, without taking memory. The allocator is kept for the frames that come.
+    /// Creates an empty result, without allocating. It keeps `alloc` for the frames that come.
     pub fn new(alloc: Global) -> Self
         ensures { result ≡ record { frames = []; noframe = false } }
     {
@@ -165,7 +167,7 @@ impl Out {
         }
     }
 
-    // Nothing again.
+    // Becomes empty again.
     pub(crate) fn clear(&mut self)
         ensures { self.new ≡ record { frames = []; noframe = false } }
     {

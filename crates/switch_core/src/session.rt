@@ -1,4 +1,4 @@
-//! The sessions of a switch, one at each port, each with its two directions.
+//! The sessions of a switch, one at each port, each with two directions.
 
 ghost use Rattle.std.specs.Prelude.{◌≡◌, ◌+◌, ◌-◌, ◌<◌, ◌≤◌, ◌^◌, ℕ, All, IfOk, IfSome, Some, length, slice_get};
 ghost use Rattle.ordered_link.specs.Sending.{IsOut, Sending, acknowledge, next_to_send, push, send_again, send_next, sent_by_ack, sent_by_push, unused, first_due};
@@ -10,7 +10,7 @@ ghost use Rattle.switch_core.specs.Switch.{at_port, is_unacked};
 ghost use Rattle.switch_core.specs.Sessions.{AreSessions, IsNew, IsOutAt, IsSessionOf, OfSender, Receives, ReceivesBy, Sends, SendsBy, wanted};
 
 use an_base::body::Body;
-use an_base::memory::OutOfMemory;
+use common_values::memory::OutOfMemory;
 use ordered_link::receiver::{Receiver, Verdict};
 use ordered_link::sender::Sender;
 use std::alloc::Global;
@@ -18,14 +18,14 @@ use std::alloc::Global;
 // What a switch keeps of the session at a port.
 #[derive(Drop)]
 struct Session {
-    // What it sends.
+    // The direction in which it sends.
     sender: Sender,
-    // What it receives.
+    // The direction in which it receives.
     receiver: Receiver,
 }
 
 impl Session {
-    // A session in which nothing was sent and nothing came, without taking memory.
+    // A session in which nothing was sent or received, without allocating.
     fn new(alloc: Global) -> Self
         ensures { IsNew result }
     {
@@ -35,7 +35,7 @@ impl Session {
         }
     }
 
-    // Pushes a body, and answers its number if it is to be sent now.
+    // Pushes a body, and returns its number if it is sent now.
     fn push(&mut self, body: Body, now: u64) -> Result<Option<u32>, OutOfMemory>
         requires { self.old.sender.acked + length self.old.sender.bodies < 2 ^ 31 }
         ensures ok { IfOk result (λ number. SendsBy (push body now) (sent_by_push body) self.old self.new number) }
@@ -44,7 +44,7 @@ impl Session {
         self.sender.push(body, now)
     }
 
-    // The number of the first waiting body, if it is to be sent now.
+    // The number of the first waiting body, if it is sent now.
     fn more(&mut self, now: u64) -> Option<u32>
         ensures sent { SendsBy (send_next now) next_to_send self.old self.new result }
         ensures out { IfSome result (IsOut self.new.sender) }
@@ -52,7 +52,7 @@ impl Session {
         self.sender.more(now)
     }
 
-    // An acknowledgement comes. Answers the number of the body that is to be sent now.
+    // Records an acknowledgement, and returns the number of the body that is sent now.
     fn on_ack(&mut self, n: u32, now: u64) -> Option<u32>
         ensures sent { SendsBy (acknowledge n now) (sent_by_ack n) self.old self.new result }
         ensures out { IfSome result (IsOut self.new.sender) }
@@ -60,7 +60,7 @@ impl Session {
         self.sender.on_ack(n, now)
     }
 
-    // Whether some body that was pushed is not acknowledged.
+    // Reports whether some body that was pushed is not acknowledged.
     fn is_unacked(&self) -> bool
         ensures { (t : Sending) (r : Receiving) → IsSessionOf self.now t r → result ≡ is_unacked t }
     {
@@ -75,7 +75,7 @@ impl Session {
         self.sender.due(now)
     }
 
-    // An outstanding body is sent again.
+    // Records that an outstanding body is sent again.
     fn resent(&mut self, k: u32, now: u64)
         requires { IsOut self.old.sender k }
         ensures { (t : Sending) (r : Receiving) → IsSessionOf self.old t r → IsSessionOf self.new (send_again k now t) r }
@@ -83,14 +83,14 @@ impl Session {
         self.sender.resent(k, now);
     }
 
-    // A body comes.
+    // Receives a body.
     fn on_carry(&mut self, k: u32, body: Body) -> Verdict
         ensures { ReceivesBy (come k body) (verdict k body) self.old self.new result }
     {
         self.receiver.on_carry(k, body)
     }
 
-    // The held body that is wanted next, which is then accepted.
+    // Accepts the wanted body if it is held, and returns it.
     fn next(&mut self) -> Option<Body>
         ensures { ReceivesBy follow wanted self.old self.new result }
     {
@@ -98,16 +98,16 @@ impl Session {
     }
 }
 
-/// The sessions at the ports 1 to 12. Ticks are counted from the beginning of the run.
+/// The sessions at the ports 1 to 12. Ticks count from the start of the run.
 #[derive(Drop)]
 pub struct Sessions {
     items: [Session; 12],
-    // Of each port, whether some body that was pushed is not acknowledged.
+    // For each port, whether some body that was pushed is not acknowledged.
     unacked: [bool; 12],
 }
 
 impl Sessions {
-    /// Sessions in which nothing was sent and nothing came, without taking memory.
+    /// Creates sessions in which nothing was sent or received, without allocating.
     pub fn new(alloc: Global) -> Self
         ensures { AreSessions result (λ port. unused) (λ port. untouched) }
     {
@@ -117,7 +117,12 @@ impl Sessions {
         }
     }
 
-    /// Pushes a body at a port, and answers its number if it is to be sent now.
+    /// Queues `body` at `port`, 1 to 12, and returns its number if it is sent now.
+    ///
+    /// Fewer than 2^31 bodies must have been pushed at the port before.
+    ///
+    /// # Errors
+    /// `OutOfMemory` if the allocation fails. The sessions are then unspecified.
     pub fn push(&mut self, port: u8, body: Body, now: u64) -> Result<Option<u32>, OutOfMemory>
         requires least { 1 ≤ port }
         requires most { port ≤ LAST_PORT }
@@ -131,7 +136,7 @@ impl Sessions {
         Ok(number)
     }
 
-    /// The number of the first waiting body of a port, if it is to be sent now.
+    /// Sends the first waiting body of `port`, 1 to 12, if the window permits, and returns its number.
     pub fn more(&mut self, port: u8, now: u64) -> Option<u32>
         requires least { 1 ≤ port }
         requires most { port ≤ LAST_PORT }
@@ -141,7 +146,8 @@ impl Sessions {
         self.items[usize::from(port - 1)].more(now)
     }
 
-    /// An acknowledgement comes by a port. Answers the number of the body that is to be sent now.
+    /// Records an acknowledgement of all bodies up to `n` at `port`, 1 to 12, and returns the number of the
+    /// body that is sent now, if one is.
     pub fn on_ack(&mut self, port: u8, n: u32, now: u64) -> Option<u32>
         requires least { 1 ≤ port }
         requires most { port ≤ LAST_PORT }
@@ -154,8 +160,10 @@ impl Sessions {
         number
     }
 
-    /// The lowest number of an outstanding body of a port that was last sent at least four ticks ago;
-    /// none exactly if there is none.
+    /// Returns the lowest-numbered outstanding body of `port`, 1 to 12, that was last sent at least four
+    /// ticks ago.
+    ///
+    /// Returns `None` if and only if there is none.
     pub fn due(&self, port: u8, now: u64) -> Option<u32>
         requires least { 1 ≤ port }
         requires most { port ≤ LAST_PORT }
@@ -165,7 +173,7 @@ impl Sessions {
         self.items[usize::from(port - 1)].due(now)
     }
 
-    /// The outstanding body with this number at a port is sent again at this tick.
+    /// Records that body `k`, which must be outstanding at `port`, 1 to 12, is sent again at tick `now`.
     pub fn resent(&mut self, port: u8, k: u32, now: u64)
         requires least { 1 ≤ port }
         requires most { port ≤ LAST_PORT }
@@ -175,7 +183,7 @@ impl Sessions {
         self.items[usize::from(port - 1)].resent(k, now);
     }
 
-    /// The outstanding body with this number at a port.
+    /// Returns body `k`, which must be outstanding at `port`, 1 to 12.
     pub fn body(&self, port: u8, k: u32) -> &Body
         requires least { 1 ≤ port }
         requires most { port ≤ LAST_PORT }
@@ -185,7 +193,7 @@ impl Sessions {
         self.items[usize::from(port - 1)].sender.body(k)
     }
 
-    /// How many bodies were accepted at a port.
+    /// Returns the number of bodies that were accepted at `port`, 1 to 12.
     pub fn last(&self, port: u8) -> u32
         requires least { 1 ≤ port }
         requires most { port ≤ LAST_PORT }
@@ -194,7 +202,7 @@ impl Sessions {
         self.items[usize::from(port - 1)].receiver.last()
     }
 
-    /// Whether some body that was pushed at some port is not acknowledged.
+    /// Reports whether some body that was pushed at some port is not acknowledged.
     pub fn is_unacked(&self) -> bool
         ensures { (t : ℕ → Sending) (r : ℕ → Receiving) → AreSessions self.now t r → result ≡ list_any (λ port. is_unacked (t port)) externals }
     {
@@ -206,7 +214,7 @@ impl Sessions {
         false
     }
 
-    /// A body comes by a port.
+    /// Receives `body` with number `k` at `port`, 1 to 12: it is accepted, held, a repeat, or ahead.
     pub fn on_carry(&mut self, port: u8, k: u32, body: Body) -> Verdict
         requires least { 1 ≤ port }
         requires most { port ≤ LAST_PORT }
@@ -215,7 +223,7 @@ impl Sessions {
         self.items[usize::from(port - 1)].on_carry(k, body)
     }
 
-    /// The held body that is wanted next at a port, which is then accepted.
+    /// Accepts the wanted body of `port`, 1 to 12, if it is held, and returns it.
     pub fn next(&mut self, port: u8) -> Option<Body>
         requires least { 1 ≤ port }
         requires most { port ≤ LAST_PORT }

@@ -1,4 +1,4 @@
-//! One switch.
+//! One switch, with the counts that keep its numbers in range.
 
 ghost use Rattle.std.specs.Prelude.{◌≡◌, ◌+◌, ◌<◌, ◌≤◌, ◌^◌, ℕ, IfOk, OnOk, OnErr, Err, [], false, true, option_copied};
 ghost use Rattle.an_base.specs.declared.limits.TheConstants.{LAST_PORT, MOST_NUMBER};
@@ -12,20 +12,20 @@ use crate::control::{Control, PowerOn};
 use crate::out::Out;
 use an_base::body::TopoBody;
 use an_base::life::Life;
-use an_base::memory::OutOfMemory;
 use an_base::port::{Note, Sample};
+use common_values::memory::OutOfMemory;
 use std::alloc::Global;
 use std::marker::Model;
 use table_build::table::Table;
 
-/// The most clocks and frames that a switch takes in one life, 2^60.
+/// The largest number of clock events and frames that a switch takes in one life, 2^60.
 pub const MOST_WORKS: u64 = 1_152_921_504_606_846_976;
 
-/// The most frames with a body that it takes in one epoch, 2^28.
+/// The largest number of frames with a body that it takes in one epoch, 2^28.
 pub const MOST_CARRIED: u32 = 268_435_456;
 
-/// One life of a switch: what it keeps of what happened to it, how many clocks and frames came, and how
-/// many frames with a body came in its epoch.
+/// One life of a switch: what it keeps of its history, the number of clock events and frames, and the
+/// number of frames with a body in its epoch.
 #[derive(Drop)]
 pub struct Switch {
     start: PowerOn,
@@ -47,7 +47,7 @@ impl Model for Switch {
     ghost invariant = { λ v. (1 ≤ v.start.had) × (v.start.had ≤ MOST_NUMBER) × (v.carried ≤ v.works) × HasState v.works v.carried v.control };
 }
 
-/// A table, and the epoch whose topology it is of.
+/// A table, and the epoch of its topology.
 #[derive(Drop)]
 pub struct TableFor {
     /// The epoch.
@@ -56,16 +56,16 @@ pub struct TableFor {
     pub table: Table,
 }
 
-/// Why a clock did not come to its end.
+/// The reason why a clock event was not completed.
 #[derive(Clone, Copy, Debug, PartialEq, Eq)]
 pub enum ClockRefusal {
-    /// A change is due and no epoch is left for it.
+    /// A change is due, and no epoch is left for it.
     EpochsSpent,
-    /// No memory was found.
+    /// An allocation failed.
     OutOfMemory,
 }
 
-// How many bodies came in an epoch, if so many came before and so many now.
+// The number of bodies in the new epoch, if `before` came in the old epoch before and `now` came with this event.
 fn counted(old_epoch: u64, new_epoch: u64, before: u32, now: u32) -> u32
     requires before { before < 2 ^ 28 }
     requires now { now ≤ 1 }
@@ -79,9 +79,13 @@ fn counted(old_epoch: u64, new_epoch: u64, before: u32, now: u32) -> u32
 }
 
 impl Switch {
-    /// A switch at power-on in this life, in an epoch that it has not joined, with the number that it
-    /// had before, 1 to 126. Its tables are to have all legal routes if `any` holds, else the least
-    /// ones alone.
+    /// Creates a switch at power-on, in `epoch`, which it has not joined.
+    ///
+    /// `had` is the number that it had before, 1 to 126. Its tables have all legal routes if `any` holds, and
+    /// only the shortest ones otherwise.
+    ///
+    /// # Errors
+    /// `OutOfMemory` if an allocation fails.
     pub fn start(
         alloc: Global,
         life: Life,
@@ -109,9 +113,14 @@ impl Switch {
         })
     }
 
-    /// Bytes come by a port, 1 to 12. If they are a frame, this is what happens; if they are none,
-    /// nothing does, and that is told. A frame that carries a body is counted in its epoch. After want of
-    /// memory the switch is as it was started, no frame goes out, and no body is counted.
+    /// Processes bytes that came on `port`, 1 to 12, and sets `out` to the result.
+    ///
+    /// If they are no frame, nothing changes, and `out` says so. A frame with a body is counted in its
+    /// epoch. The switch must not have reached `MOST_WORKS` or `MOST_CARRIED`, nor have its epochs spent.
+    ///
+    /// # Errors
+    /// `OutOfMemory` if an allocation fails. The switch is then reset to its start, no body is counted, and
+    /// `out` is empty.
     pub fn handle(&mut self, frame: &[u8], port: u8, out: &mut Out) -> Result<(), OutOfMemory>
         requires least { 1 ≤ port }
         requires most { port ≤ LAST_PORT }
@@ -146,11 +155,16 @@ impl Switch {
         }
     }
 
-    /// A clock comes at this tick, with a sample of each port: first the probes go out, by rising port;
-    /// then the positions of a join, if a change is due, else the bodies that are sent again.
-    /// `EpochsSpent` says that a change is due and no epoch is left for it; then the ports have changed,
-    /// nothing is joined and no frame goes out. After want of memory the switch is as it was started, and
-    /// no frame goes out.
+    /// Processes a clock event at tick `now` with a sample of each port, and sets `out` to the result.
+    ///
+    /// First the probes go out, in ascending order of port; then the positions of a join, if a change is
+    /// due, and otherwise the bodies that are sent again. The switch must not have reached `MOST_WORKS` or
+    /// `MOST_CARRIED`, nor have its epochs spent.
+    ///
+    /// # Errors
+    /// - `EpochsSpent` if a change is due and no epoch is left for it. The ports have then changed, but no
+    ///   epoch is joined, and no frame goes out.
+    /// - `OutOfMemory` if an allocation fails. The switch is then reset to its start, and `out` is empty.
     pub fn clock(
         &mut self,
         now: u64,
@@ -194,8 +208,12 @@ impl Switch {
         }
     }
 
-    /// Loads the table of what the switch has finished with, which is due. Its number is proposed at
-    /// the next join. After want of memory nothing has changed.
+    /// Returns the table for the topology that the switch has finished with, and its epoch.
+    ///
+    /// The switch proposes the table's number at its next join. A load must be due.
+    ///
+    /// # Errors
+    /// `OutOfMemory` if an allocation fails. The switch is then unchanged.
     pub fn load(&mut self) -> Result<TableFor, OutOfMemory>
         requires { IsLoadDue self.old }
         ensures start { self.new.start ≡ self.old.start }
@@ -213,14 +231,16 @@ impl Switch {
         })
     }
 
-    /// What the switch has finished with in its present epoch; none exactly if it has not finished.
+    /// Returns the topology that the switch has finished with in its current epoch.
+    ///
+    /// Returns `None` if and only if it has not finished.
     pub fn finish(&self) -> Option<&TopoBody>
         ensures { (s : SwitchOf) → StandsFor self.now s → option_copied result ≡ finish_of s }
     {
         self.control.finish()
     }
 
-    /// Whether it is to load a table.
+    /// Reports whether a load of the table is due.
     pub fn load_due(&self) -> bool
         ensures due { result ≡ load_due self.now }
         ensures stands { (s : SwitchOf) → StandsFor self.now s → result ≡ s.load_due }
@@ -228,7 +248,7 @@ impl Switch {
         self.control.load_due
     }
 
-    /// Whether a clock has answered that the epochs are spent.
+    /// Reports whether a clock event has returned that the epochs are spent.
     pub fn is_spent(&self) -> bool
         ensures spent { result ≡ is_spent self.now }
         ensures stands { (s : SwitchOf) → StandsFor self.now s → result ≡ s.spent }
@@ -236,29 +256,29 @@ impl Switch {
         self.control.spent
     }
 
-    /// How many clocks and frames came.
+    /// Returns the number of clock events and frames that came.
     pub fn works(&self) -> u64
         ensures { result ≡ self.now.works }
     {
         self.works
     }
 
-    /// How many frames with a body came in the epoch that it is in.
+    /// Returns the number of frames with a body that came in the current epoch.
     pub fn carried(&self) -> u32
         ensures { result ≡ carried self.now }
     {
         self.carried
     }
 
-    /// Sets a note to what the switch shows of itself.
+    /// Sets `note` to what the switch shows of itself.
     pub fn show(&self, note: &mut Note)
         ensures { (s : SwitchOf) → StandsFor self.now s → note.new ≡ note_of s }
     {
         self.control.show(note);
     }
 
-    /// Sets a note of what the switch showed before something came by a port, 1 to 12, to what it shows
-    /// now. Only this port is looked at.
+    /// Updates `note` from what the switch showed before something came on `port`, 1 to 12, to what it shows
+    /// now. Only this port is read.
     pub fn show_port(&self, port: u8, note: &mut Note)
         requires least { 1 ≤ port }
         requires most { port ≤ LAST_PORT }
@@ -268,7 +288,7 @@ impl Switch {
         self.control.show_port(port, note);
     }
 
-    /// What the switch shows of itself.
+    /// Returns what the switch shows of itself.
     pub fn note(&self) -> Note
         ensures { (s : SwitchOf) → StandsFor self.now s → result ≡ note_of s }
     {

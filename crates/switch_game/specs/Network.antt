@@ -1,5 +1,5 @@
--- All lives as switches in a network of which nothing is known, what may happen there, and which moves of the
--- game that is.
+-- All lives as switches in a network of which nothing is known: what can happen there, and which moves of the game
+-- that is.
 
 use Rattle.std.specs.Prelude.{◌≡◌, ◌==◌, ◌≤◌, nat_lt, ℕ, List, [], ◌∷◌, ◌++◌, map, Bool, true, false, if◌then◌else◌, Contains}
 use Rattle.std.specs.Ordering.{is_eq}
@@ -16,31 +16,31 @@ use Rattle.switch_core.specs.Switch.{SwitchOf, started, counts}
 use Rattle.ordered_link.specs.Receiving.{accepted_by}
 use Rattle.switch_core.specs.Steps.{Sent, Step, joins, framed, clocked, loaded, still}
 
--- How each life is powered on: in which epoch, with which number, and whether its tables have all legal
--- routes
+-- How each life is powered on: in which epoch, with which short address, and whether its tables have all legal
+-- routes.
 pub record PowerOn : Type 0 where
   pub epoch : LifeId → ℕ
   pub had : LifeId → ℕ
   pub any : LifeId → Bool
 
--- A network of which nothing is known: the switch that each life is, and each frame that one of them ever
--- sent. It has no wires. A life that is not powered on yet, or no more, is one to which nothing happens.
+-- A network of which nothing is known: the switch that each life is, and each frame that a switch ever sent. It has
+-- no wires. To a life that is not powered on yet, or no longer is, nothing happens.
 pub record Network : Type 0 where
   pub switches : LifeId → SwitchOf
   pub sent : List Frame
 
--- all lives as they are powered on, and nothing was sent
+-- the network in which all lives are as they are powered on, and nothing was sent
 abbrev pub dark : PowerOn → Network
 dark on = record { switches = λ life. started life (on.epoch life) (on.had life) (on.any life); sent = [] }
 
--- a life is another switch, and the others are as they were
+-- the switches, after that of one life is replaced
 abbrev pub with_switch : (LifeId → SwitchOf) → LifeId → SwitchOf → LifeId → SwitchOf
 with_switch switches life switch other = if is_eq (life_cmp life other) then switch else switches other
 
 abbrev pub frames_of : List Sent → List Frame
 frames_of sent = map (λ (out : Sent). out.frame) sent
 
--- a life takes a step, and what goes out by it is sent for good
+-- the network after a life takes a step; what goes out by the step is sent for ever
 abbrev pub stepped : Network → LifeId → Step → Network
 stepped network life step =
     record {
@@ -48,25 +48,25 @@ stepped network life step =
       sent = frames_of step.frames ++ network.sent;
     }
 
--- Bodies are accepted on a port by a life, which has this card and has accepted this so far
+-- The game after a life, which has this card and has accepted this list so far, accepts bodies on a port.
 abbrev pub all_accepted : LifeId → ℕ → List Body → CardOf → Log → Game → Game
 all_accepted life port [] card log game = game
 all_accepted life port (body ∷ bodies) card log game =
     all_accepted life port bodies card (record { port = port; body = body } ∷ log)
     (after_accept game life (record { card = card; log = log }) port body)
 
--- The moves of the game that a step of a life is. By a clock it joins the next epoch, or does nothing
+-- The moves of the game that a step of a life is. At a clock it joins the next epoch, or does nothing.
 abbrev pub clock_moves : LifeId → SwitchOf → SwitchOf → Game → Game
 clock_moves life before switch game =
     if before.epoch == switch.epoch then game else after_join game life switch.epoch switch.card
 
--- the bodies that are accepted by one that comes, in their order
+-- the moves of accepting, in their order, the bodies that the arrival of one lets a life accept
 abbrev pub body_moves : LifeId → ℕ → ℕ → Body → SwitchOf → Game → Game
 body_moves life port number body switch game =
     all_accepted life port (accepted_by number body (switch.receivings port)) switch.card switch.log game
 
--- By a body that counts it joins a greater epoch, and accepts each body in turn; one of a lower epoch is
--- nothing
+-- The moves by a body: by one that counts, a life joins a higher epoch, and accepts each body in turn; a body of a
+-- lower epoch does nothing.
 abbrev pub carry_moves : LifeId → ℕ → CarryOf → SwitchOf → Game → Game
 carry_moves life port carry switch game =
     if nat_lt switch.epoch carry.epoch
@@ -75,7 +75,7 @@ carry_moves life port carry switch game =
     else if carry.epoch == switch.epoch then body_moves life port carry.number carry.body switch game
     else game
 
--- no other frame is a move
+-- the moves by a frame; only a body makes any
 abbrev pub frame_moves : LifeId → ℕ → Frame → SwitchOf → Game → Game
 frame_moves life port (Carry carry) switch game =
     if counts switch port carry.from carry.to then carry_moves life port carry switch game else game
@@ -83,10 +83,10 @@ frame_moves life port (Ack epoch from to number) switch game = game
 frame_moves life port (Probe from nonce) switch game = game
 frame_moves life port (Reply from to nonce) switch game = game
 
--- What may happen, whatever the wires do, with the game that it plays: a clock comes to one of the lives,
--- with any tick and samples; any frame that any life ever sent is handed to one of them, at any of its ports,
--- any number of times or never; and one that is to load a table loads one, of any number. Clocks and frames
--- come only while its epochs are not spent; a switch whose epochs are spent may still load.
+-- What can happen, whatever the wires do, with the game that it plays: a clock comes to one of the lives, with any
+-- tick and samples; any frame that any life ever sent is passed to one of them, at any of its ports, any number of
+-- times or never; and a switch that must load a table loads one, of any number. Clocks and frames come only while
+-- the epochs of the switch are not spent; a switch whose epochs are spent can still load.
 pub data Happens (lives : List LifeId) (earlier : Network) (earlier_game : Game)
     : Network → Game → Type 0 where
   none : Happens lives earlier earlier_game earlier earlier_game

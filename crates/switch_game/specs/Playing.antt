@@ -12,17 +12,16 @@ use Rattle.switch_core.specs.Switch.{SwitchOf, finish_of, good_peer, is_unacked}
 abbrev pub node_of : SwitchOf → Node
 node_of switch = record { card = switch.card; log = switch.log }
 
--- What the game has of a life is what its switch has: its epoch, its node there once it has joined, and
--- whether it has loaded since, which is whether it has finished and is to load no more: that is all of when
--- it may load
+-- The game has of `life` what `switch` has: its epoch, its node there once it has joined, and whether it has loaded
+-- since. A load is due if and only if the life has finished and has not loaded.
 pub record Agrees (life : LifeId) (switch : SwitchOf) (game : Game) : Type 0 where
   pub present : game.present life ≡ switch.epoch
   pub joined : switch.joined ≡ true → game.nodes life switch.epoch ≡ Some (node_of switch)
   pub unjoined : (epoch : ℕ) → switch.joined ≡ false → game.nodes life epoch ≡ None
   pub load_due : switch.load_due ≡ (is_some (finish_of switch) && not (game.loaded life switch.epoch))
 
--- The far end of a link of the life has joined the epoch, and names the link. It may have left the epoch
--- since
+-- The far end of the link at `port` has joined the epoch of `switch`, and names the link. It can have left the
+-- epoch since.
 pub record FarHasJoined (game : Game) (life : LifeId) (port : ℕ) (switch : SwitchOf) (far : EndId)
     : Type 0 where
   pub node : Node
@@ -31,25 +30,25 @@ pub record FarHasJoined (game : Game) (life : LifeId) (port : ℕ) (switch : Swi
   pub named : Names switch.card port far.life far.port
   pub back : Names node.card far.port life port
 
--- it has, and has accepted all that the life sent on the link
+-- the far end has joined the epoch, and has accepted all that `life` sent on the link
 pub record FarHasAll (game : Game) (life : LifeId) (port : ℕ) (switch : SwitchOf) (far : EndId) : Type 0 where
   pub end : FarHasJoined game life port switch far
   pub accepted : on_port far.port end.node.log ≡ sent switch.card port switch.log
 
--- and so many of them, if not all are acknowledged
+-- the far end has joined the epoch, and has accepted at least as many bodies as are acknowledged
 pub record FarHasSome (game : Game) (life : LifeId) (port : ℕ) (switch : SwitchOf) (far : EndId)
     : Type 0 where
   pub end : FarHasJoined game life port switch far
   pub accepted : (switch.sendings port).acked ≤ length (on_port far.port end.node.log)
 
--- Each of two ends is the good peer of the other, and has nothing waiting or unacknowledged there
+-- Each of two ends is the good peer of the other, and has nothing waiting or unacknowledged there.
 pub record IsQuietLink (switch other : SwitchOf) (port other_port : ℕ) : Type 0 where
   pub there : good_peer switch port ≡ Some (record { life = other.life; port = other_port })
   pub back : good_peer other other_port ≡ Some (record { life = switch.life; port = port })
   pub acknowledged : is_unacked (switch.sendings port) ≡ false
   pub acknowledged_back : is_unacked (other.sendings other_port) ≡ false
 
--- Both are in one epoch, have joined it with this link, and each has accepted what the other sent on it
+-- Both are in one epoch, have joined it with this link, and each has accepted what the other sent on it.
 pub record IsSettledLink (switch other : SwitchOf) (port other_port : ℕ) : Type 0 where
   pub joined : switch.joined ≡ true
   pub joined_back : other.joined ≡ true
@@ -59,7 +58,7 @@ pub record IsSettledLink (switch other : SwitchOf) (port other_port : ℕ) : Typ
   pub accepted : on_port other_port other.log ≡ sent switch.card port switch.log
   pub accepted_back : on_port port switch.log ≡ sent other.card other_port other.log
 
--- What a life did in an epoch that it has left stays
+-- What `life` did in `epoch` has stayed.
 pub record HasStayed (life : LifeId) (epoch : ℕ) (game later : Game) : Type 0 where
   pub node : later.nodes life epoch ≡ game.nodes life epoch
   pub loaded : later.loaded life epoch ≡ game.loaded life epoch

@@ -10,9 +10,9 @@ ghost use Rattle.switch_game.specs.Network.{Happens, Network, PowerOn, dark};
 ghost use Rattle.switch_game.specs.Playing.{Agrees, FarHasAll, FarHasSome, HasStayed, IsQuietLink, IsSettledLink};
 ghost use Rattle.switch_game.specs.Quiet.{HasSettled, IsQuiet};
 
-/// Whatever the wires do, what the switches do are moves of the game of all epochs, from whatever epochs
-/// the lives are powered on in, and the game has of each life what its switch has. What happens later
-/// are further moves, which leave what a life did in an epoch below its present one.
+/// Whatever the wires do, what the switches do are moves of the game of all epochs, from whatever epochs the lives
+/// are powered on in, and the game has of each life what its switch has. What happens later are further moves; they
+/// do not change what a life did in an epoch below its present one.
 pub fn switches_play_the_game()
     ensures plays { (lives : List LifeId) (on : PowerOn) (network : Network) (game : Game)
         → Happens lives (dark on) (begins on.epoch) network game → Play lives (begins on.epoch) game }
@@ -27,8 +27,8 @@ pub fn switches_play_the_game()
         → epoch < (network.switches life).epoch → HasStayed life epoch game later_game }
 {}
 
-/// The links with which a life joined its epoch are its good links for as long as it is in the epoch and
-/// its epochs are not spent. Before it has joined one it has none.
+/// The links with which a life joined its epoch are its good links for as long as it is in the epoch and its epochs
+/// are not spent. Before it has joined an epoch it has no good links.
 pub fn the_links_are_the_good_ones()
     ensures life { (lives : List LifeId) (on : PowerOn) (network : Network) (game : Game) (life : LifeId)
         → Happens lives (dark on) (begins on.epoch) network game → (network.switches life).life ≡ life }
@@ -49,9 +49,10 @@ pub fn the_links_are_the_good_ones()
         → good_peer (network.switches life) port ≡ None }
 {}
 
-/// If a life has joined, and some body that it sent on a link is acknowledged, the far end of the link
-/// has joined that epoch, names the link, and has accepted as many bodies; and if all are acknowledged,
-/// it has accepted all that was sent on it. So it is even if the far end has left the epoch since.
+/// If a life has joined, and some body that it sent on a link is acknowledged, the far end of the link has joined
+/// that epoch, names the link, and has accepted at least as many bodies as are acknowledged; if all are
+/// acknowledged, it has accepted all that was sent on the link. This holds even if the far end has left the epoch
+/// since.
 pub fn what_is_acknowledged_is_accepted()
     ensures some { (lives : List LifeId) (on : PowerOn) (network : Network) (game : Game) (life : LifeId)
         (port : ℕ) (far : EndId)
@@ -67,8 +68,8 @@ pub fn what_is_acknowledged_is_accepted()
         → FarHasAll game life port (network.switches life) far }
 {}
 
-/// If two lives are good peers of each other and nothing waits or is unacknowledged at either end, both
-/// are in one epoch, and each has accepted all that the other sent on their link.
+/// If two lives are good peers of each other and nothing waits or is unacknowledged at either end, both are in one
+/// epoch, and each has accepted all that the other sent on their link.
 pub fn a_quiet_link_is_settled()
     ensures { (lives : List LifeId) (on : PowerOn) (network : Network) (game : Game) (life other : LifeId)
         (port other_port : ℕ)
@@ -79,11 +80,11 @@ pub fn a_quiet_link_is_settled()
         → IsSettledLink (network.switches life) (network.switches other) port other_port }
 {}
 
-/// Let at most 126 lives have joined the epoch of a life, however many there are in all. If each life that is
-/// reached from it over good ports has joined, its good ports are good at both ends, and nothing waits or is
-/// unacknowledged, then all of them are in that epoch, each has its place in the spanning tree of exactly
-/// these lives, and each has finished with one topology, which has the entries of these lives with their good
-/// links and no other.
+/// At most 126 lives have joined the epoch of `life`, however many there are in total. If each life that is reached
+/// from it over good ports has joined, its good ports are good at both ends, and nothing waits or is
+/// unacknowledged, then all of them are in that epoch, each has its place in the spanning tree of exactly these
+/// lives, and each has finished with one topology, which has the entries of these lives with their good links and
+/// no other.
 pub fn a_quiet_component_has_finished()
     ensures { (lives members : List LifeId) (on : PowerOn) (network : Network) (game : Game) (life : LifeId)
         → length members ≤ 126 → Happens lives (dark on) (begins on.epoch) network game
@@ -91,8 +92,8 @@ pub fn a_quiet_component_has_finished()
         → IsQuiet network life → HasSettled members network game life }
 {}
 
-/// If a life has finished in an epoch that at most 126 lives have joined, and even if it has left it since,
-/// each life of its topology is in that epoch or in a greater one.
+/// If a life has finished in an epoch that at most 126 lives have joined, even if it has left it since, each life
+/// of its topology is in that epoch or in a higher one.
 pub fn no_member_is_behind()
     ensures finished { (lives members : List LifeId) (on : PowerOn) (network : Network) (game : Game)
         (life : LifeId) (epoch : ℕ) (finished : HasFinished game life epoch) (entry : EntryOf)

@@ -1,8 +1,10 @@
-//! The numbers of the switches of a topology, by which packets are addressed.
+//! autonet, tables: assigns numbers to the switches of a topology.
 //!
-//! It stands on an_base. Its contract: of those that propose a number the least life gets it, and
-//! the others get, by rising life, the lowest numbers that nobody proposed, in rising order; so the
-//! numbers are all different, and a switch whose number nobody else wants keeps it.
+//! Packets are addressed to these numbers.
+//!
+//! It depends on `an_base`. Its contract: of the switches that propose a number, the one with the lowest life gets it.
+//! The others get, in ascending order of life, the lowest numbers that nobody proposed. So all numbers are different,
+//! and a switch whose number nobody else proposes keeps it.
 #![tactic(auto)]
 
 pub mod law;

@@ -1,12 +1,12 @@
-//! Which numbers are free is found from all entries first, so that no life gets what a greater one alone proposes.
+//! Free numbers are found from all entries first, so that no life gets a number that only a higher life proposes.
 
 ghost use Rattle.std.specs.Prelude.{◌≡◌, IfOk};
 ghost use Rattle.switch_numbering.specs.Numbering.{is_proposed, free, proposals, numbering};
 
 use an_base::entry::{Entries, Entry};
 use an_base::limits::MOST_NUMBER;
-use an_base::memory::OutOfMemory;
 use an_base::numbers::Numbers;
+use common_values::memory::OutOfMemory;
 use std::alloc::{AllocError, Global};
 
 // Whether one of the entries proposes this number.
@@ -35,8 +35,13 @@ fn free_numbers(alloc: Global, entries: &[Entry]) -> Result<Vec<u8>, AllocError>
     Ok(free)
 }
 
-/// The numbers of the entries, in their order: of those that propose a number the least life gets
-/// it, and the others get, by rising life, the lowest numbers that nobody proposed, in rising order.
+/// Returns the numbers of `entries`, in the same order.
+///
+/// Of the lives that propose a number, the lowest gets it. The others get, in ascending order of life,
+/// the lowest numbers that nobody proposed.
+///
+/// # Errors
+/// `OutOfMemory` if an allocation fails.
 pub fn number(alloc: Global, entries: &Entries) -> Result<Numbers, OutOfMemory>
     ensures { IfOk result (λ numbers. numbers ≡ numbering entries.now) }
 {

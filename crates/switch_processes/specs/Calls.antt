@@ -13,8 +13,8 @@ use Rattle.switch_core.specs.Switch.{SwitchOf}
 use Rattle.switch_game.specs.Network.{PowerOn}
 use Rattle.switch_processes.specs.Processes.{Call, Clocks, Hears, Loads, switch_after}
 
--- What is kept of the switch of a life that a program started, after these calls. Bytes that are no frame may
--- come in between.
+-- What is kept of the switch of `life`, which a program started, after these calls. Bytes that do not form a frame
+-- can come in between.
 pub data HasCalled (on : PowerOn) (life : LifeId) : KeptOf → List Call → Type 0 where
   starts : (kept : KeptOf) → StandsFor kept (switch_after on life []) → HasCalled on life kept []
   clocks : (old new : KeptOf) (before : List Call) (now : ℕ) (samples : List Sample) (out : OutOf)

@@ -1,4 +1,4 @@
--- One order of all calls of all processes, and the history of the network that it is.
+-- One order of all calls of all processes, which is a history of the network.
 
 use Rattle.std.specs.Prelude.{◌≡◌, ℕ, List, [], ◌∷◌, if◌then◌else◌}
 use Rattle.std.specs.Ordering.{is_eq}
@@ -12,12 +12,12 @@ use Rattle.switch_core.specs.Steps.{clocked}
 use Rattle.switch_game.specs.Network.{Happens, Network, PowerOn, clock_moves, dark, frame_moves, stepped}
 use Rattle.switch_processes.specs.Processes.{Call, Clocks, Event, Hears, IsOf, Loads, called, switch_after}
 
--- a call, and whose it is
+-- a call, and the life that made it
 pub record CallOf : Type 0 where
   pub life : LifeId
   pub call : Call
 
--- the calls of one life among those of all, the newest first
+-- the calls of one life among those of all lives, the newest first
 abbrev pub calls_of : LifeId → List CallOf → List Call
 calls_of life [] = []
 calls_of life (one ∷ earlier) =
@@ -27,11 +27,11 @@ calls_of life (one ∷ earlier) =
 abbrev pub IsInterleaving : (LifeId → List Call) → List CallOf → Type 0
 IsInterleaving did order = (life : LifeId) → calls_of life order ≡ did life
 
--- the event that a call is, after the earlier ones
+-- the event that a call is, after the earlier calls
 abbrev pub event_of : CallOf → List CallOf → Event
 event_of one earlier = record { life = one.life; call = one.call; before = calls_of one.life earlier }
 
--- each frame comes in after the event by which it was sent
+-- each frame comes in after the event that sent it
 abbrev pub AreSentBefore : (Event → Event) → List CallOf → Type 0
 AreSentBefore sending [] = Unit {0}
 AreSentBefore sending (one ∷ earlier) =
@@ -58,8 +58,8 @@ game_after on [] = begins on.epoch
 game_after on (one ∷ earlier) =
     call_moves one.life one.call ((network_after on earlier).switches one.life) (game_after on earlier)
 
--- There is one order of all that the processes did. At each moment of it, it is a history of the network, each
--- life is at a moment of its process, and its switch is the one that its process has then.
+-- There is one order of all that the processes did. At each point in time it is a history of the network, each life
+-- is at a point in time of its process, and its switch is the one that its process has then.
 pub record HasOneOrder (lives : List LifeId) (on : PowerOn) (did : LifeId → List Call)
     (sending : Event → Event) : Type 0 where
   pub order : List CallOf
@@ -72,7 +72,7 @@ pub record HasOneOrder (lives : List LifeId) (on : PowerOn) (did : LifeId → Li
   pub switches : (past : List CallOf) → Earlier past order → (life : LifeId)
       → (network_after on past).switches life ≡ switch_after on life (calls_of life past)
 
--- The order has all that was done up to a cut before all else, and the network goes on from there
+-- `order` has all that was done up to `cut` before all else, and the network continues from there.
 pub record Passes (lives : List LifeId) (on : PowerOn) (cut : LifeId → List Call) (order : List CallOf)
     : Type 0 where
   pub past : List CallOf

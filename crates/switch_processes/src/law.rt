@@ -1,4 +1,4 @@
-//! What processes did, each in its own order, is one history, and what holds of them so.
+//! What processes did, each in its own order, is one history, and what therefore holds of them.
 
 ghost use Rattle.std.specs.Prelude.{◌≡◌, ◌≤◌, ◌∷◌, ℕ, Contains, List, length};
 ghost use Rattle.an_base.specs.Values.{EntryOf, LifeId, TopoOf};
@@ -11,7 +11,7 @@ ghost use Rattle.switch_processes.specs.Processes.{AreLivesOf, AreTimes, Call, E
 ghost use Rattle.switch_processes.specs.Calls.{HasCalled};
 ghost use Rattle.switch_processes.specs.Orders.{HasOneOrder, Passes, game_after, network_after};
 
-/// What is kept of a switch after the calls of a program, by their contracts, stands for the switch after these
+/// What is kept of a switch after the calls of a program, by their contracts, represents the switch after these
 /// calls; and the switch takes each of them.
 pub fn calls_are_those_of_a_process()
     ensures stands { (on : PowerOn) (life : LifeId) (kept : KeptOf) (calls : List Call)
@@ -21,17 +21,17 @@ pub fn calls_are_those_of_a_process()
         → Earlier (call ∷ before) calls → Takes (switch_after on life before) call }
 {}
 
-/// If each process made its calls in an order of its own, each frame that came in is one that went out by an
-/// event, and no event happened before itself, then all calls have one order. It keeps the order of each
-/// process and has the sending of each frame before it comes in. At each moment of it, it is a history of the
-/// network of all lives, in which each life is at a moment of its process, as the switch that this has then.
+/// If each process made its calls in its own order, each frame that came in went out by an event, and no event
+/// happened before itself, then all calls have one order. It keeps the order of each process, and has the sending
+/// of each frame before its arrival. At each point in time it is a history of the network of all lives, in which
+/// each life is at a point in time of its process, as the switch that the process has then.
 pub fn processes_have_one_order()
     ensures { (lives : List LifeId) (on : PowerOn) (did : LifeId → List Call) (sending : Event → Event)
         → IsRun lives on did sending → HasNoCycle did sending → HasOneOrder lives on did sending }
 {}
 
-/// No event happened before itself if events have times that rise in each process, and from the sending of a
-/// frame until it comes in. What was done by a time is then a consistent cut.
+/// No event happened before itself if events have times that rise in each process, and from the sending of a frame
+/// to its arrival. What was done by a given time is then a consistent cut.
 pub fn events_have_times()
     ensures no_cycle { (lives : List LifeId) (on : PowerOn) (did : LifeId → List Call)
         (sending : Event → Event) (time : Event → ℕ)
@@ -43,8 +43,8 @@ pub fn events_have_times()
 {}
 
 /// What processes did up to a consistent cut is itself such a run, so whatever holds of runs holds at each
-/// consistent cut. And one order of the whole passes the cut: it has all that was done up to the cut first,
-/// and the network goes on from there.
+/// consistent cut. One order of the whole passes the cut: it has all that was done up to the cut first, and the
+/// network continues from there.
 pub fn a_consistent_cut_is_a_run()
     ensures run { (lives : List LifeId) (on : PowerOn) (did cut : LifeId → List Call)
         (sending : Event → Event)
@@ -57,10 +57,10 @@ pub fn a_consistent_cut_is_a_run()
         → (one : HasOneOrder lives on did sending) × Passes lives on cut one.order }
 {}
 
-/// Of lives of which at most 126 ever join an epoch, two that have finished it under one root, each at some moment
-/// of its own, hold one topology. The links of a topology with which one has finished it are a graph, and each of
-/// its lives has its place in the tree of shortest walks. And each of these lives is in that epoch or in a
-/// greater one.
+/// At most 126 lives ever join the epoch. Two lives that have finished it under one root, each at some point in
+/// time of its own, hold one topology. The links of a topology with which a life has finished the epoch are a
+/// graph, and each of its lives has its place in the tree of shortest walks. Each of these lives is in that epoch
+/// or in a higher one.
 pub fn processes_hold_one_topology()
     ensures one { (lives members : List LifeId) (on : PowerOn) (did : LifeId → List Call)
         (sending : Event → Event) (life other : LifeId) (epoch : ℕ) (topology other_topology : TopoOf)
@@ -84,7 +84,7 @@ pub fn processes_hold_one_topology()
 {}
 
 /// If at most 126 lives ever join the epoch in which a life is at the end, and its component is quiet in the
-/// network of the one order, then this has settled.
+/// network of the one order, then the component has settled.
 pub fn a_quiet_component_has_settled()
     ensures { (lives members : List LifeId) (on : PowerOn) (did : LifeId → List Call)
         (sending : Event → Event) (life : LifeId) (one : HasOneOrder lives on did sending)
@@ -93,8 +93,8 @@ pub fn a_quiet_component_has_settled()
         → HasSettled members (network_after on one.order) (game_after on one.order) life }
 {}
 
-/// Only the lives of a run join an epoch. If switches go on where they were, each later life of one from no
-/// lower epoch, then at most as many lives join an epoch as there are switches, however many lives there are.
+/// Only the lives of a run join an epoch. If switches resume where they were, each later life from no lower epoch,
+/// then at most as many lives join an epoch as there are switches, however many lives there are.
 pub fn an_epoch_is_joined_once_by_a_switch()
     ensures lives { (lives : List LifeId) (on : PowerOn) (did : LifeId → List Call) (sending : Event → Event)
         (epoch : ℕ)

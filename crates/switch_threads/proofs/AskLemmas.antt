@@ -9,22 +9,22 @@ use Rattle.switch_core.specs.Kept.{KeptOf}
 use Rattle.switch_core.specs.Steps.{loaded}
 use Rattle.switch_core.specs.Switch.{note_of}
 use Rattle.switch_core.specs.declared.switch.TableFor.{TableFor}
-use Rattle.fabric_state.specs.declared.ending.Ending.{Ending}
+use Rattle.net_state.specs.declared.ending.Ending.{Ending}
 use Rattle.fabric_turn.specs.Calls.{IsFitFor}
 use Rattle.fabric_turn.specs.declared.view.View.{View}
-use Rattle.fabric_world.specs.declared.ask.Ask.{Ask}
-use Rattle.fabric_world.specs.declared.ask.Ask.TheVariants as ask
-use Rattle.fabric_world.specs.Turns.{AnswersDrive, AnswersPut, AnswersTake, IsDone, IsFit, IsToLoad, LoadsOrNot}
-use Rattle.fabric_state.specs.declared.line.PlacedLine.{PlacedLine}
-use Rattle.fabric_world.specs.World.{world_after}
+use Rattle.net_world.specs.declared.ask.Ask.{Ask}
+use Rattle.net_world.specs.declared.ask.Ask.TheVariants as ask
+use Rattle.net_world.specs.Turns.{AnswersDrive, AnswersPut, AnswersTake, IsDone, IsFit, IsToLoad, LoadsOrNot}
+use Rattle.net_state.specs.declared.line.PlacedLine.{PlacedLine}
+use Rattle.net_world.specs.World.{world_after}
 use Rattle.fabric_book.specs.Nets.{PowerOf}
 use Rattle.fabric_book.specs.declared.account.Account.{Account}
-use Rattle.fabric_world.specs.declared.ask.Reply.{Reply}
-use Rattle.fabric_world.specs.declared.ask.Reply.TheVariants as reply
-use Rattle.fabric_world.specs.declared.ask.Letter.{Letter}
-use Rattle.fabric_world.specs.declared.ask.Parcel.{Parcel}
-use Rattle.fabric_world.specs.declared.ask.Sheet.{Sheet}
-use Rattle.fabric_world.specs.declared.ask.Slip.{Slip}
+use Rattle.net_world.specs.declared.ask.Reply.{Reply}
+use Rattle.net_world.specs.declared.ask.Reply.TheVariants as reply
+use Rattle.net_world.specs.declared.ask.Letter.{Letter}
+use Rattle.net_world.specs.declared.ask.Parcel.{Parcel}
+use Rattle.net_world.specs.declared.ask.Sheet.{Sheet}
+use Rattle.net_world.specs.declared.ask.Slip.{Slip}
 use Rattle.switch_threads.specs.declared.desk.Pending.TheVariants as pending
 use Rattle.switch_threads.specs.Workers.{IsDriving}
 use Rattle.switch_threads.proofs.StayLemmas.{IsAtPlace}

@@ -5,16 +5,16 @@ use Rattle.std.proofs.Common.{sym, ◌∙◌, ap, append_assoc}
 use Rattle.std.proofs.lemmas.List.{append-nil}
 use Rattle.an_base.specs.declared.event.Event.{Event}
 use Rattle.net_script.specs.Scripts.{ScriptOf}
-use Rattle.fabric_state.specs.declared.ending.Ending.{Ending}
-use Rattle.fabric_state.specs.declared.work.Drive.TheVariants as drive
-use Rattle.fabric_state.specs.Agree.{ending_of}
+use Rattle.net_state.specs.declared.ending.Ending.{Ending}
+use Rattle.net_state.specs.declared.work.Drive.TheVariants as drive
+use Rattle.net_state.specs.Agree.{ending_of}
 use Rattle.fabric_turn.specs.History.{Extends}
-use Rattle.fabric_state.specs.declared.line.PlacedLine.{PlacedLine}
-use Rattle.fabric_world.specs.Histories.{end_of}
-use Rattle.fabric_world.specs.Turns.{Drives}
-use Rattle.fabric_world.specs.World.{WorldOf, world_after}
-use Rattle.fabric_world.proofs.SoloLemmas.{told_end}
-use Rattle.fabric_world.proofs.WorldLemmas.{none_at_end, step-unlawful, world_after-event}
+use Rattle.net_state.specs.declared.line.PlacedLine.{PlacedLine}
+use Rattle.net_world.specs.Histories.{end_of}
+use Rattle.net_world.specs.Turns.{Drives}
+use Rattle.net_world.specs.World.{WorldOf, world_after}
+use Rattle.net_world.proofs.SoloLemmas.{told_end}
+use Rattle.net_world.proofs.WorldLemmas.{none_at_end, step-unlawful, world_after-event}
 
 pub end_stays : (script : ScriptOf) (h more : List Event) (end : Ending) → end_of script h ≡ Some end → end_of script (h ++ more) ≡ Some end
 end_stays script h [] end is = ap (end_of script) (append-nil h) ∙ is

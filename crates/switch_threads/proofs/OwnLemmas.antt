@@ -18,27 +18,27 @@ use Rattle.switch_core.specs.Kept.{KeptOf, StandsFor}
 use Rattle.switch_core.specs.Steps.{loaded}
 use Rattle.switch_core.specs.Switch.{SwitchOf, finish_of, note_of}
 use Rattle.switch_core.specs.declared.switch.TableFor.{TableFor}
-use Rattle.fabric_state.specs.declared.hand.Hand.TheVariants as hand
-use Rattle.fabric_state.specs.declared.hand.Hand.{Hand}
-use Rattle.fabric_state.specs.declared.work.Why.TheVariants as why
-use Rattle.fabric_state.specs.declared.work.Work.TheVariants as work
-use Rattle.fabric_state.specs.declared.work.Work.{Work}
-use Rattle.fabric_state.specs.Choices.{event_of_work, frame_work, next_port, next_work}
-use Rattle.fabric_state.specs.Effects.{restarted, showing}
-use Rattle.fabric_state.specs.Fabric.{FabricOf, StationOf, clock_due_at, held_bytes, is_empty, is_full_at, is_some_spent, room, samples_of, station, table_at}
-use Rattle.fabric_state.specs.Lawful.{is_barred, is_command, is_lawful}
-use Rattle.fabric_state.specs.Starts.{next_life_at}
-use Rattle.fabric_state.specs.declared.line.PlacedLine.{PlacedLine}
-use Rattle.fabric_world.specs.Histories.{last_taken}
-use Rattle.fabric_world.specs.Sound.{AllMayCome}
-use Rattle.fabric_world.specs.Turns.{IsToLoad, TakesWork}
-use Rattle.fabric_world.specs.World.{WorldOf, effect, handled, loads_with, next_life, start_of, table_for, world_after}
-use Rattle.fabric_world.proofs.CountLemmas.{event_counts}
-use Rattle.fabric_world.proofs.InductionLemmas.{world_script}
-use Rattle.fabric_world.proofs.NextLemmas.{handle_is_lawful, load_is_lawful, work_is_lawful}
-use Rattle.fabric_world.proofs.StaysLemmas.{handles_stay}
+use Rattle.net_state.specs.declared.hand.Hand.TheVariants as hand
+use Rattle.net_state.specs.declared.hand.Hand.{Hand}
+use Rattle.net_state.specs.declared.work.Why.TheVariants as why
+use Rattle.net_state.specs.declared.work.Work.TheVariants as work
+use Rattle.net_state.specs.declared.work.Work.{Work}
+use Rattle.net_state.specs.Choices.{event_of_work, frame_work, next_port, next_work}
+use Rattle.net_state.specs.Effects.{restarted, showing}
+use Rattle.net_state.specs.Fabric.{FabricOf, StationOf, clock_due_at, held_bytes, is_empty, is_full_at, is_some_spent, room, samples_of, station, table_at}
+use Rattle.net_state.specs.Lawful.{is_barred, is_command, is_lawful}
+use Rattle.net_state.specs.Starts.{next_life_at}
+use Rattle.net_state.specs.declared.line.PlacedLine.{PlacedLine}
+use Rattle.net_world.specs.Histories.{last_taken}
+use Rattle.net_world.specs.Sound.{AllMayCome}
+use Rattle.net_world.specs.Turns.{IsToLoad, TakesWork}
+use Rattle.net_world.specs.World.{WorldOf, effect, handled, loads_with, next_life, start_of, table_for, world_after}
+use Rattle.net_world.proofs.CountLemmas.{event_counts}
+use Rattle.net_world.proofs.InductionLemmas.{world_script}
+use Rattle.net_world.proofs.NextLemmas.{handle_is_lawful, load_is_lawful, work_is_lawful}
+use Rattle.net_world.proofs.StaysLemmas.{handles_stay}
 use Rattle.fabric_book.specs.Nets.{HasFrame, IsStarted, IsSwitchKept, PowerOf, start_with}
-use Rattle.fabric_world.specs.declared.ask.Sheet.{Sheet}
+use Rattle.net_world.specs.declared.ask.Sheet.{Sheet}
 use Rattle.fabric_book.proofs.BookLemmas.{world_more}
 use Rattle.fabric_book.proofs.HandLemmas.{to_number}
 use Rattle.fabric_book.proofs.OwnLemmas.{at_same, clock_own, restart_own, set_here, take_own}

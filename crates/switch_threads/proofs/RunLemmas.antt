@@ -9,7 +9,7 @@ use Rattle.std.proofs.lemmas.Option.{same_Some}
 use Rattle.std.proofs.Math.Seq.{take-append_seam}
 use Rattle.an_base.specs.declared.event.Event.{Event}
 use Rattle.net_script.specs.Scripts.{IsScript, ScriptOf}
-use Rattle.fabric_state.specs.declared.ending.Ending.{Ending}
+use Rattle.net_state.specs.declared.ending.Ending.{Ending}
 use Rattle.fabric_turn.specs.History.{Extends, own_entries}
 use Rattle.fabric_turn.specs.Rule.{first_view}
 use Rattle.fabric_turn.specs.Seats.{HasOneNumber, ended_caller, joined_view, new_view, remaining_view, unused_callers}
@@ -17,9 +17,9 @@ use Rattle.fabric_turn.specs.Turnstiles.{TurnstileId}
 use Rattle.fabric_turn.specs.declared.view.Ended.{Ended}
 use Rattle.fabric_turn.specs.declared.view.View.{View}
 use Rattle.fabric_turn.proofs.Facts.{no-more, own_entries-append}
-use Rattle.fabric_world.specs.Accounts.{AccountOf, account_of}
-use Rattle.fabric_world.specs.Histories.{HistoryOf, IsLawful, IsLegal, end_of, owner_of}
-use Rattle.fabric_world.proofs.AccountLemmas.{account_stays}
+use Rattle.net_world.specs.Accounts.{AccountOf, account_of}
+use Rattle.net_world.specs.Histories.{HistoryOf, IsLawful, IsLegal, end_of, owner_of}
+use Rattle.net_world.proofs.AccountLemmas.{account_stays}
 use Rattle.fabric_book.specs.Accounts.{AreAccounts, HasAccount, IsAccount}
 use Rattle.fabric_book.specs.declared.account.Account.{Account}
 use Rattle.switch_threads.specs.Runs.{AreToldBy, AreToldDown, AreWorkers, HasCalled, HasEntries, HasSeenMore, HaveCalled, IsSeatOf, IsToldAt, IsToldBy, SeatOf, callers_of, driver_seat, first_seat}

@@ -14,15 +14,15 @@ use Rattle.net_script.proofs.command.Command.TheSendSync as command
 use Rattle.net_script.specs.contracts.script.Script as Script
 use Rattle.wire_set.proofs.wires.WireSet.TheSendSync as wires
 use Rattle.host_traffic.proofs.traffic.Traffic.TheSendSync as traffic
-use Rattle.fabric_state.proofs.stations.Stations.TheSendSync as stations
-use Rattle.fabric_state.specs.contracts.fabric.Fabric as Fabric
-use Rattle.fabric_state.specs.contracts.plan.Plan as Plan
+use Rattle.net_state.proofs.stations.Stations.TheSendSync as stations
+use Rattle.net_state.specs.contracts.fabric.Fabric as Fabric
+use Rattle.net_state.specs.contracts.plan.Plan as Plan
 use Rattle.fabric_turn.proofs.seat.Seat.TheSendSync as seat
 use Rattle.fabric_turn.proofs.turnstile.Turnstile.TheSendSync as turnstile
 use Rattle.fabric_turn.specs.contracts.seat.Seat as Seat
 use Rattle.fabric_turn.specs.contracts.turnstile.Turnstile as Turnstile
-use Rattle.fabric_world.specs.contracts.ask.Ask as Ask
-use Rattle.fabric_world.specs.contracts.ask.Reply as Reply
+use Rattle.net_world.specs.contracts.ask.Ask as Ask
+use Rattle.net_world.specs.contracts.ask.Reply as Reply
 use Rattle.fabric_book.specs.contracts.book.Book as Book
 use Rattle.fabric_book.specs.contracts.book.BookStaged.TheImpl.{ghosts}
 use Rattle.switch_threads.proofs.desk.Desk.TheSendSync as desk

@@ -9,19 +9,19 @@ use Rattle.wire_set.specs.WireState.{hand_of}
 use Rattle.switch_core.specs.Kept.{KeptOf, StandsFor}
 use Rattle.switch_core.specs.Steps.{Step, loaded}
 use Rattle.switch_core.specs.Switch.{SwitchOf, note_of}
-use Rattle.fabric_state.specs.Fabric.{StationOf, held_bytes, is_empty, station}
+use Rattle.net_state.specs.Fabric.{StationOf, held_bytes, is_empty, station}
 use Rattle.fabric_turn.specs.History.{NoneOf}
 use Rattle.fabric_turn.specs.declared.view.View.{View}
-use Rattle.fabric_world.specs.Histories.{owner_of}
-use Rattle.fabric_world.specs.Turns.{IsToLoad}
-use Rattle.fabric_world.specs.World.{handled, start_of, world_after}
-use Rattle.fabric_world.proofs.CountLemmas.{event_counts}
-use Rattle.fabric_world.proofs.ElsewhereLemmas.{AreSameAt, world_elsewhere}
-use Rattle.fabric_world.proofs.FitLemmas.{done_stays, handled_same, others_from_none, to_load_stays, world_hand_elsewhere}
-use Rattle.fabric_world.proofs.InductionLemmas.{kept_by}
+use Rattle.net_world.specs.Histories.{owner_of}
+use Rattle.net_world.specs.Turns.{IsToLoad}
+use Rattle.net_world.specs.World.{handled, start_of, world_after}
+use Rattle.net_world.proofs.CountLemmas.{event_counts}
+use Rattle.net_world.proofs.ElsewhereLemmas.{AreSameAt, world_elsewhere}
+use Rattle.net_world.proofs.FitLemmas.{done_stays, handled_same, others_from_none, to_load_stays, world_hand_elsewhere}
+use Rattle.net_world.proofs.InductionLemmas.{kept_by}
 use Rattle.fabric_book.specs.Nets.{PowerOf}
 use Rattle.fabric_book.specs.Told.{hand_lines}
-use Rattle.fabric_world.specs.declared.ask.Parcel.{Parcel}
+use Rattle.net_world.specs.declared.ask.Parcel.{Parcel}
 use Rattle.switch_threads.specs.declared.desk.Desk.{Desk}
 use Rattle.switch_threads.specs.declared.desk.Papers.{Papers}
 use Rattle.switch_threads.specs.declared.desk.Pending.{Pending}

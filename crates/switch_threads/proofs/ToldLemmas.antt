@@ -13,29 +13,29 @@ use Rattle.net_script.specs.Scripts.{IsScript, ScriptOf}
 use Rattle.table_build.specs.Tables.{TableOf}
 use Rattle.switch_core.specs.Bytes.{BytesOut, all_spelled}
 use Rattle.switch_core.specs.declared.switch.TableFor.{TableFor}
-use Rattle.fabric_state.specs.declared.hand.Hand.{Hand}
-use Rattle.fabric_state.specs.declared.hand.Hand.TheVariants as hand
-use Rattle.fabric_state.specs.declared.work.Drive.{Drive}
-use Rattle.fabric_state.specs.declared.work.Drive.TheVariants as drive
-use Rattle.fabric_state.specs.declared.work.Work.{Work}
-use Rattle.fabric_state.specs.declared.work.Work.TheVariants as work
-use Rattle.fabric_state.specs.Choices.{event_of_drive, event_of_work}
-use Rattle.fabric_state.specs.Fabric.{held_bytes, station, table_at}
-use Rattle.fabric_state.specs.Lawful.{is_lawful}
+use Rattle.net_state.specs.declared.hand.Hand.{Hand}
+use Rattle.net_state.specs.declared.hand.Hand.TheVariants as hand
+use Rattle.net_state.specs.declared.work.Drive.{Drive}
+use Rattle.net_state.specs.declared.work.Drive.TheVariants as drive
+use Rattle.net_state.specs.declared.work.Work.{Work}
+use Rattle.net_state.specs.declared.work.Work.TheVariants as work
+use Rattle.net_state.specs.Choices.{event_of_drive, event_of_work}
+use Rattle.net_state.specs.Fabric.{held_bytes, station, table_at}
+use Rattle.net_state.specs.Lawful.{is_lawful}
 use Rattle.fabric_turn.specs.Calls.{Called}
 use Rattle.fabric_turn.specs.History.{own_entries}
 use Rattle.fabric_turn.specs.declared.view.View.{View}
-use Rattle.fabric_world.specs.declared.ask.Ask.{Ask}
-use Rattle.fabric_world.specs.declared.ask.Reply.{Reply}
-use Rattle.fabric_state.specs.declared.line.Line.{Line}
-use Rattle.fabric_state.specs.declared.line.PlacedLine.{PlacedLine}
-use Rattle.fabric_world.specs.Accounts.{AccountOf, account_of, loaded_rows, placed, placed_lines}
-use Rattle.fabric_world.specs.Histories.{owner_of}
-use Rattle.fabric_world.specs.Lines.{lines_of}
-use Rattle.fabric_world.specs.Turns.{AnswersAsk, AreTold, IsToLoad, IsTold}
-use Rattle.fabric_world.specs.World.{WorldOf, handled, step, world_after}
-use Rattle.fabric_world.proofs.AccountLemmas.{account_next, account_stays}
-use Rattle.fabric_world.proofs.WorldLemmas.{world_after-event}
+use Rattle.net_world.specs.declared.ask.Ask.{Ask}
+use Rattle.net_world.specs.declared.ask.Reply.{Reply}
+use Rattle.net_state.specs.declared.line.Line.{Line}
+use Rattle.net_state.specs.declared.line.PlacedLine.{PlacedLine}
+use Rattle.net_world.specs.Accounts.{AccountOf, account_of, loaded_rows, placed, placed_lines}
+use Rattle.net_world.specs.Histories.{owner_of}
+use Rattle.net_world.specs.Lines.{lines_of}
+use Rattle.net_world.specs.Turns.{AnswersAsk, AreTold, IsToLoad, IsTold}
+use Rattle.net_world.specs.World.{WorldOf, handled, step, world_after}
+use Rattle.net_world.proofs.AccountLemmas.{account_next, account_stays}
+use Rattle.net_world.proofs.WorldLemmas.{world_after-event}
 use Rattle.fabric_book.specs.Accounts.{IsAccount, with_lines, with_load}
 use Rattle.fabric_book.specs.Nets.{HasFrame}
 use Rattle.fabric_book.specs.declared.account.Account.{Account}

@@ -19,38 +19,38 @@ use Rattle.switch_core.specs.Kept.{KeptOf, Loads, StandsFor}
 use Rattle.switch_core.specs.Steps.{loaded}
 use Rattle.switch_core.specs.Switch.{note_of, started_as}
 use Rattle.switch_core.specs.declared.switch.TableFor.{TableFor}
-use Rattle.fabric_state.specs.declared.ending.Ending.{Ending}
-use Rattle.fabric_state.specs.declared.hand.Hand.{Hand}
-use Rattle.fabric_state.specs.declared.hand.Hand.TheVariants as hand
-use Rattle.fabric_state.specs.declared.work.Drive.{Drive}
-use Rattle.fabric_state.specs.declared.work.Drive.TheVariants as drive
-use Rattle.fabric_state.specs.declared.work.Work.{Work}
-use Rattle.fabric_state.specs.declared.work.Work.TheVariants as work
-use Rattle.fabric_state.specs.Fabric.{StationOf, held_bytes, is_empty, is_full_at, station, vacant}
-use Rattle.fabric_state.specs.Lawful.{is_barred, is_lawful}
+use Rattle.net_state.specs.declared.ending.Ending.{Ending}
+use Rattle.net_state.specs.declared.hand.Hand.{Hand}
+use Rattle.net_state.specs.declared.hand.Hand.TheVariants as hand
+use Rattle.net_state.specs.declared.work.Drive.{Drive}
+use Rattle.net_state.specs.declared.work.Drive.TheVariants as drive
+use Rattle.net_state.specs.declared.work.Work.{Work}
+use Rattle.net_state.specs.declared.work.Work.TheVariants as work
+use Rattle.net_state.specs.Fabric.{StationOf, held_bytes, is_empty, is_full_at, station, vacant}
+use Rattle.net_state.specs.Lawful.{is_barred, is_lawful}
 use Rattle.fabric_turn.specs.Calls.{Called, DifferByCalls}
 use Rattle.fabric_turn.specs.History.{Extends, NoneOf, own_entries}
 use Rattle.fabric_turn.specs.declared.view.View.{View}
-use Rattle.fabric_world.specs.declared.ask.Ask.{Ask}
-use Rattle.fabric_world.specs.declared.ask.Ask.TheVariants as ask
-use Rattle.fabric_world.specs.declared.ask.Done.{Done}
-use Rattle.fabric_world.specs.declared.ask.Reply.{Reply}
-use Rattle.fabric_world.specs.declared.ask.Reply.TheVariants as reply
-use Rattle.fabric_state.specs.declared.line.PlacedLine.{PlacedLine}
-use Rattle.fabric_world.specs.Accounts.{AccountOf, account_of, placed}
-use Rattle.fabric_world.specs.Histories.{end_of, owner_of}
-use Rattle.fabric_world.specs.Turns.{AnswersAsk, AreTold, Drives, IsDone, IsToLoad, LoadsOrNot, PutsFrames, TakesWork, is_noise}
-use Rattle.fabric_world.specs.World.{begun, first_station, handles, start_of, world_after}
-use Rattle.fabric_world.proofs.InductionLemmas.{world_script}
-use Rattle.fabric_world.proofs.NextLemmas.{handle_is_lawful, load_is_lawful}
-use Rattle.fabric_world.proofs.PlaceLemmas.{world_places}
+use Rattle.net_world.specs.declared.ask.Ask.{Ask}
+use Rattle.net_world.specs.declared.ask.Ask.TheVariants as ask
+use Rattle.net_world.specs.declared.ask.Done.{Done}
+use Rattle.net_world.specs.declared.ask.Reply.{Reply}
+use Rattle.net_world.specs.declared.ask.Reply.TheVariants as reply
+use Rattle.net_state.specs.declared.line.PlacedLine.{PlacedLine}
+use Rattle.net_world.specs.Accounts.{AccountOf, account_of, placed}
+use Rattle.net_world.specs.Histories.{end_of, owner_of}
+use Rattle.net_world.specs.Turns.{AnswersAsk, AreTold, Drives, IsDone, IsToLoad, LoadsOrNot, PutsFrames, TakesWork, is_noise}
+use Rattle.net_world.specs.World.{begun, first_station, handles, start_of, world_after}
+use Rattle.net_world.proofs.InductionLemmas.{world_script}
+use Rattle.net_world.proofs.NextLemmas.{handle_is_lawful, load_is_lawful}
+use Rattle.net_world.proofs.PlaceLemmas.{world_places}
 use Rattle.fabric_book.specs.Accounts.{HasAccount, IsAccount, with_lines, with_load}
 use Rattle.fabric_book.specs.Nets.{HasFrame, IsHandled, IsStarted, PowerOf, power_of, start_with}
 use Rattle.fabric_book.specs.declared.account.Account.{Account}
-use Rattle.fabric_world.specs.declared.ask.Letter.{Letter}
-use Rattle.fabric_world.specs.declared.ask.Parcel.{Parcel}
-use Rattle.fabric_world.specs.declared.ask.Slip.{Slip}
-use Rattle.fabric_world.specs.declared.ask.Sheet.{Sheet}
+use Rattle.net_world.specs.declared.ask.Letter.{Letter}
+use Rattle.net_world.specs.declared.ask.Parcel.{Parcel}
+use Rattle.net_world.specs.declared.ask.Slip.{Slip}
+use Rattle.net_world.specs.declared.ask.Sheet.{Sheet}
 use Rattle.fabric_book.proofs.DriveLemmas.{driven, driver_owns}
 use Rattle.fabric_book.proofs.HandLemmas.{done_is, stands_is}
 use Rattle.switch_threads.specs.declared.desk.Desk.{Desk}

@@ -6,9 +6,9 @@ ghost use Rattle.an_base.specs.declared.event.Event.{Event};
 ghost use Rattle.net_script.specs.Scripts.{ScriptOf};
 ghost use Rattle.switch_core.specs.Kept.{StandsFor};
 ghost use Rattle.switch_core.specs.Switch.{SwitchOf, note_of};
-ghost use Rattle.fabric_state.specs.declared.work.Work.TheVariants.{Restart};
+ghost use Rattle.net_state.specs.declared.work.Work.TheVariants.{Restart};
 ghost use Rattle.fabric_turn.specs.Names.{turnstile_id};
-ghost use Rattle.fabric_world.specs.Accounts.{AccountOf, placed};
+ghost use Rattle.net_world.specs.Accounts.{AccountOf, placed};
 ghost use Rattle.fabric_book.specs.Accounts.{IsAccount, with_lines, with_load};
 ghost use Rattle.switch_threads.specs.declared.desk.Desk.{Desk as DeskOf};
 ghost use Rattle.switch_threads.specs.declared.desk.Next.TheVariants as next;
@@ -18,53 +18,53 @@ ghost use Rattle.switch_threads.specs.Runs.{HasCalled};
 ghost use Rattle.switch_threads.specs.Workers.{IsAsking, IsInStep, IsNext, IsToDo, IsToHandle, IsUpTo, done_with};
 
 use an_base::life::Life;
-use an_base::memory::OutOfMemory;
 use an_base::place::Place;
 use an_base::port::Note;
 use an_base::row::Row;
+use common_values::memory::OutOfMemory;
 use fabric_book::account::Account;
 use fabric_book::book::Book;
 use fabric_book::handling::handle;
 use fabric_book::lines::Lines;
 use fabric_book::power::PowerOn;
-use fabric_state::hand::Hand;
-use fabric_state::line::PlacedLine;
-use fabric_state::station::write_note;
-use fabric_state::work::{Why, Work};
 use fabric_turn::{Seat, Turnstile};
-use fabric_world::ask::{Ask, Done, Letter, Parcel, Reply, Sheet};
 use frame_region::buffer::FrameBuf;
 use net_script::script::Script;
+use net_state::hand::Hand;
+use net_state::line::PlacedLine;
+use net_state::station::write_note;
+use net_state::work::{Why, Work};
+use net_world::ask::{Ask, Done, Letter, Parcel, Reply, Sheet};
 use std::alloc::Global;
 use std::mem::{replace, swap};
 use std::sync::Wait;
 use switch_core::out::{FrameOut, Frames, Out};
 use switch_core::switch::Switch;
 
-/// What a worker has to ask for next.
+/// What a worker must ask for next.
 #[derive(Drop)]
 pub(crate) enum Pending {
-    /// For work.
+    /// Work.
     Work,
-    /// To put what came of what it had in hand, which lies in its papers.
+    /// Putting what came of what the worker had in hand, which is in its papers.
     Put,
-    /// To load a table.
+    /// The load of a table.
     Load(Box<Sheet>),
 }
 
-/// What a worker is to do next.
+/// What a worker does next.
 #[derive(Clone, Copy)]
 pub(crate) enum Next {
-    /// To ask for what is to be asked for.
+    /// Asks for what is pending.
     Ask,
-    /// To ask for it once the worker is roused.
+    /// Asks for it once the worker is woken.
     Later,
-    /// To do the work that it took, which lies in its papers.
+    /// Does the work that it took, which is in its papers.
     Do,
 }
 
 impl Next {
-    /// What there is to do at a turn, ahead of which the worker may have been roused.
+    /// Returns what the worker does at a turn, given whether it was woken before it.
     pub fn once_roused(self, is_roused: bool) -> Next
         ensures { (script : ScriptOf) (history : List Event) (desk : DeskOf) (papers : PapersOf)
             → IsNext script history desk papers self → IsNext script history desk papers result }
@@ -75,30 +75,30 @@ impl Next {
         }
     }
 
-    /// Whether there is something to do at a turn, ahead of which the worker may have been roused.
+    /// Reports whether the worker has something to do at a turn, given whether it was woken before it.
     pub fn is_due(&self, is_roused: bool) -> bool {
         is_roused || !matches!(self, Next::Later)
     }
 
-    /// Whether there is something to ask for.
+    /// Reports whether the worker asks for something.
     pub fn is_ask(&self) -> bool {
         matches!(self, Next::Ask)
     }
 }
 
-/// What a worker tells.
+/// What a worker reports.
 #[derive(Drop)]
 pub(crate) struct Tale {
-    /// What is told of what its switch handled last.
+    /// The lines that report what its switch handled last.
     pub lines: Lines,
     /// The rows of the table that is to be loaded.
     pub rows: Vec<Row>,
-    /// What is told of all its events.
+    /// The lines of all its events.
     pub account: Account,
 }
 
 impl Tale {
-    // Nothing yet.
+    // Creates an empty report.
     fn new(alloc: Global) -> Tale
         ensures { IsAccount (record { lines = []; rows = [] }) result.account }
     {
@@ -109,7 +109,7 @@ impl Tale {
         }
     }
 
-    // Tells of what a switch handled, by its event, and of its frames that were lost.
+    // Adds the lines of what a switch handled, by its event, and of its lost frames.
     fn tell_handled(&mut self, parcel: &Parcel)
         ensures { (told : AccountOf) → IsAccount told self.old.account → IsAccount (with_lines
             (placed parcel.now.event (self.old.lines ++ flat_map option_to_list parcel.now.puts.items)) told)
@@ -121,7 +121,7 @@ impl Tale {
         }
     }
 
-    // Tells of the load of a table, with the rows that were copied of it.
+    // Adds the line of the load of a table, with the rows that were copied from it.
     fn tell_load(&mut self, alloc: Global, line: PlacedLine)
         ensures { (told : AccountOf) → IsAccount told self.old.account → IsAccount
             (with_load line self.old.rows.items told) self.new.account }
@@ -131,24 +131,24 @@ impl Tale {
     }
 }
 
-/// What a worker hands over when it asks, and gets back, and room for a note.
+/// What a worker passes on when it asks, and gets back, and space for a note.
 #[derive(Drop)]
 pub(crate) struct Papers {
-    /// On which it is told its next work.
+    /// The letter, on which the book writes the next work of the worker.
     pub letter: Box<Letter>,
-    /// What it puts, until it has something else to put. The note in it is what the switch shows.
+    /// What the worker puts, until it has something else to put. The note in it is what the switch shows.
     pub parcel: Box<Parcel>,
-    /// Room for another note.
+    /// Space for another note.
     pub note: Box<Note>,
 }
 
 impl Papers {
-    /// The frames that were put last, until others are laid there.
+    /// Returns the frames that were put last, until others replace them.
     pub fn sent(&self) -> &[FrameOut] {
         self.parcel.done.frames.as_slice()
     }
 
-    // With what this switch shows.
+    // Creates papers with what the switch shows.
     fn new(alloc: Global, switch: &Switch) -> Result<Papers, OutOfMemory>
         ensures { (x : SwitchOf) → StandsFor switch.now x
             → IfOk result (λ papers. papers.parcel.value.done.note ≡ note_of x) }
@@ -177,8 +177,7 @@ impl Papers {
         })
     }
 
-    // What there is to do after work was taken. If there is none it is to be asked for once the worker is
-    // roused.
+    // Returns what to do after work was taken. If there was no work, it is asked for once the worker is woken.
     fn after_take(&self) -> Next
         ensures { (script : ScriptOf) (history : List Event) (desk : DeskOf)
             → IsToDo script history desk self.now self.now.letter.value.work
@@ -191,27 +190,27 @@ impl Papers {
     }
 }
 
-/// What a worker works with, but for its papers.
+/// What a worker works with, except for its papers.
 #[derive(Drop)]
 pub(crate) struct Desk {
     /// The allocator of what the worker makes.
     pub alloc: Global,
-    /// Its switch.
+    /// The index of its switch.
     pub s: Place,
-    /// With what the switch is started in each of its lives.
+    /// What the switch is started with in each of its lives.
     pub power_on: PowerOn,
-    /// The switch, which stays where it is when the desk is moved.
+    /// The switch, which stays in place when the desk is moved.
     pub switch: Box<Switch>,
-    /// Where the frames go that the switch sends.
+    /// Where the frames that the switch sends go.
     pub out: Out,
     /// What is to be asked for next.
     pub pending: Pending,
-    /// What the worker tells.
+    /// What the worker reports.
     pub tale: Tale,
 }
 
-// What came of what a switch had in hand is laid into a parcel, beside the note of what it shows then, with room for
-// what becomes of each frame. The memory of the frames that lay there is kept for those that come.
+// Writes what came of what a switch had in hand into `parcel`, next to the note of what it then shows, with space
+// for the fate of each frame. The memory of the previous frames is reused.
 fn lay(switch: &Switch, out: &mut Out, parcel: &mut Parcel) -> Result<(), OutOfMemory>
     ensures laid { (x : SwitchOf) → StandsFor switch.now x → parcel.old.done.note ≡ note_of x
         → OnOk result (parcel.new.done ≡ done_with out.old x) }
@@ -224,7 +223,7 @@ fn lay(switch: &Switch, out: &mut Out, parcel: &mut Parcel) -> Result<(), OutOfM
     Ok(())
 }
 
-// A copy of rows: the table itself goes to the book, which uses it when the report is made.
+// Returns a copy of the rows: the table itself goes to the book, which uses it when the report is made.
 fn copied(alloc: Global, rows: &[Row]) -> Result<Vec<Row>, OutOfMemory>
     ensures { IfOk result (λ copy. copy.items ≡ rows.now) }
 {
@@ -241,7 +240,10 @@ fn copied(alloc: Global, rows: &[Row]) -> Result<Vec<Row>, OutOfMemory>
 }
 
 impl Desk {
-    /// The desk and the papers of a switch that begins its first life.
+    /// Creates the desk and the papers of the switch `s`, which must be one of the script's, in its first life.
+    ///
+    /// # Errors
+    /// `OutOfMemory` if an allocation fails.
     pub fn new(alloc: Global, script: &Script, s: Place) -> Result<(Desk, Papers), OutOfMemory>
         requires { s < length script.now.wires.switches }
         ensures place { IfOk result (λ r. r.0.s ≡ s) }
@@ -265,12 +267,12 @@ impl Desk {
         Ok((desk, papers))
     }
 
-    /// Whether it is to put what came of what it had in hand.
+    /// Reports whether the worker is to put what came of what it had in hand.
     pub fn is_putting(&self) -> bool {
         matches!(self.pending, Pending::Put)
     }
 
-    // A table is to be loaded next, if one is due and nothing else is to be asked for.
+    // Makes the load of a table pending, if one is due and nothing else is.
     fn due(&mut self, papers: &mut Papers) -> Result<(), OutOfMemory>
         ensures place { self.new.s ≡ self.old.s }
         ensures told { self.new.tale.account ≡ self.old.tale.account }
@@ -291,8 +293,11 @@ impl Desk {
         }
     }
 
-    /// Does what is to be done before there is something to ask for: the work that was taken, and a table
-    /// that is due. Answers what there is to do then.
+    /// Does what is due before there is something to ask for: the work that was taken, and a table that is due.
+    /// Returns what to do then.
+    ///
+    /// # Errors
+    /// `OutOfMemory` if an allocation fails. The worker can then no longer continue.
     pub fn ready(&mut self, papers: &mut Papers, next: Next) -> Result<Next, OutOfMemory>
         requires { (script : ScriptOf) × (history : List Event) × IsNext script history self.old papers.old next }
         ensures place { self.new.s ≡ self.old.s }
@@ -315,8 +320,7 @@ impl Desk {
         }
     }
 
-    /// Asks for what is to be asked for, by one call of the turnstile. Answers its papers, and what there is to do
-    /// next.
+    /// Makes the pending ask, by one call of the turnstile. Returns the papers, and what to do next.
     pub fn ask<R: Wait>(
         &mut self,
         rt: &R,
@@ -363,7 +367,7 @@ impl Desk {
         (papers, next)
     }
 
-    // Does the work that it took.
+    // Does the work that the worker took.
     fn work(&mut self, papers: &mut Papers, job: &Work) -> Result<(), OutOfMemory>
         requires { (script : ScriptOf) × (history : List Event) × IsToDo script history self.old papers.old job.now }
         ensures place { self.new.s ≡ self.old.s }
@@ -379,8 +383,8 @@ impl Desk {
         }
     }
 
-    // The switch begins a life. It stands apart from `work`, which would else clear the room for a new switch at
-    // each call, though a restart is rare.
+    // Begins a life of the switch. It is apart from `work`, which would otherwise clear the space for a new switch
+    // at each call, though a restart is rare.
     #[cold]
     #[inline(never)]
     fn restart(&mut self, papers: &mut Papers, life: Life) -> Result<(), OutOfMemory>
@@ -398,7 +402,7 @@ impl Desk {
         Ok(())
     }
 
-    // The switch handles what it has in hand, and what came of it is to be put then.
+    // Makes the switch handle what it has in hand; what came of it is then to be put.
     fn handle(&mut self, papers: &mut Papers, hand: Hand) -> Result<(), OutOfMemory>
         requires { (script : ScriptOf) × (history : List Event) × IsToHandle script history self.old papers.old hand }
         ensures place { self.new.s ≡ self.old.s }
@@ -422,7 +426,7 @@ impl Desk {
         Ok(())
     }
 
-    // Puts what came of what it had in hand.
+    // Puts what came of what the worker had in hand.
     fn put<R: Wait>(
         &mut self,
         rt: &R,
@@ -447,7 +451,7 @@ impl Desk {
         Papers { parcel, ..papers }
     }
 
-    // Asks for a table to be used.
+    // Asks to use a table.
     fn load<R: Wait>(
         &mut self,
         rt: &R,
@@ -477,7 +481,10 @@ impl Desk {
         }
     }
 
-    /// What is told of the events of its worker, unless memory was wanting.
+    /// Returns the lines of the worker's events.
+    ///
+    /// # Errors
+    /// `OutOfMemory` if an allocation of the report failed.
     pub fn into_account(self) -> Result<Account, OutOfMemory>
         ensures { IfOk result (λ account. (account ≡ self.tale.account) × (account.failed ≡ false)) }
     {

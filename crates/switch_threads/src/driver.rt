@@ -7,13 +7,13 @@ ghost use Rattle.fabric_turn.specs.Turnstiles.{TurnstileId};
 ghost use Rattle.switch_threads.specs.Runs.{HasCalled, IsToldAt, driver_seat};
 ghost use Rattle.switch_threads.specs.Workers.{IsDriving};
 
-use an_base::memory::OutOfMemory;
+use common_values::memory::OutOfMemory;
 use fabric_book::account::Account;
 use fabric_book::book::Book;
-use fabric_state::ending::Ending;
-use fabric_state::work::Drive;
 use fabric_turn::{Seat, Turnstile};
-use fabric_world::ask::{Ask, Reply, Slip};
+use net_state::ending::Ending;
+use net_state::work::Drive;
+use net_world::ask::{Ask, Reply, Slip};
 use std::alloc::Global;
 use std::marker::Model;
 use std::sync::Wait;
@@ -21,8 +21,8 @@ use std::sync::Wait;
 // The most steps in one round.
 const STEPS: u32 = 64;
 
-/// The driver: its seat, the end that it was told, if one has come, what is told of its events, and the slip on which
-/// it is told what it did, which is away while it asks.
+/// The driver: its seat, the end that it was given, if one has come, the lines of its events, and the slip on which
+/// the book writes what the driver did, which is away while it asks.
 #[derive(Drop)]
 pub(crate) struct Driver {
     seat: Seat<Book>,
@@ -44,7 +44,10 @@ impl Model for Driver {
 }
 
 impl Driver {
-    /// The driver that has this seat, which was told no end yet.
+    /// Creates the driver with `seat`, which must be the first seat of a run after each worker got its number.
+    ///
+    /// # Errors
+    /// `OutOfMemory` if an allocation fails.
     pub fn new(alloc: Global, seat: Seat<Book>) -> Result<Driver, OutOfMemory>
         requires { (turnstile : TurnstileId) × (script : ScriptOf) × IsScript script
             × (seat ≡ driver_seat turnstile script) }
@@ -62,24 +65,27 @@ impl Driver {
         })
     }
 
-    /// The end that it was told.
+    /// Returns the end that the driver was given, if any.
     pub fn end(&self) -> Option<Ending>
         ensures { result ≡ self.now.end }
     {
         self.end
     }
 
-    /// Whether memory was wanting.
+    /// Reports whether an allocation failed.
     pub fn failed(&self) -> bool {
         self.account.failed
     }
 
-    /// Whether it is to make no steps any more: it was told an end, or memory was wanting.
+    /// Reports whether the driver makes no more steps: it was given an end, or an allocation failed.
     pub fn has_ended(&self) -> bool {
         self.end.is_some() || self.account.failed
     }
 
-    /// Its seat, and what is told of its events, unless memory was wanting.
+    /// Returns the driver's seat, and the lines of its events.
+    ///
+    /// # Errors
+    /// `OutOfMemory` if an allocation of the report failed.
     pub fn into_parts(self) -> Result<(Seat<Book>, Account), OutOfMemory>
         ensures seat { IfOk result (λ parts. parts.0 ≡ self.seat) }
         ensures told { IfOk result (λ parts. IsToldAt self.seat parts.1) }
@@ -91,7 +97,7 @@ impl Driver {
         Ok((self.seat, self.account))
     }
 
-    // One step. Whether there may be another one at once.
+    // Makes one step. Reports whether another one can follow at once.
     fn step<R: Wait>(&mut self, rt: &R, turnstile: &Turnstile<Book>) -> bool
         requires { self.old.seat.0 ≡ turnstile_id turnstile.now }
         ensures { HasCalled self.old.seat self.new.seat }
@@ -116,7 +122,7 @@ impl Driver {
         }
     }
 
-    /// The steps of a round: until it waits, or is told an end, or has done so many.
+    /// Makes the steps of a round: until the driver waits, is given an end, or has done 64.
     pub fn steps<R: Wait>(&mut self, rt: &R, turnstile: &Turnstile<Book>)
         requires { self.old.seat.0 ≡ turnstile_id turnstile.now }
         ensures { HasCalled self.old.seat self.new.seat }

@@ -1,13 +1,12 @@
-//! A run of a network in threads, with a worker for each switch and a driver. Of up to four switches each worker
-//! has a thread of its own, and of more if workers may wait for one another at the gate; else two threads have
-//! half of them each.
+//! autonet, runs: a run of the simulated network in threads, a worker for each switch and a driver.
+//! Up to four workers have a thread each, and so do more if workers can wait for one another at the gate. Otherwise
+//! two threads have half of the workers each.
 //!
-//! They share the book of the network (`fabric_book`) through a turnstile (`fabric_turn`); a worker owns all
-//! else that it needs: its seat, its switch and its buffers. The one contract: whatever interleaving the
-//! threads take, what `run` gives is a legal history of the script and the end of that history, and all that
-//! is claimed of a lawful history (`HoldsAndSettles`) holds of it; and what each caller told of its events comes
-//! with it (`AreAccounts`). Nothing is claimed of time or fairness: not that a thread is served, that a turn
-//! comes, or that `run` returns.
+//! All share the book of the network (`fabric_book`) through a turnstile (`fabric_turn`); a worker owns all else
+//! that it needs: its seat, its switch and its buffers. Its contract: whatever interleaving the threads take, `run`
+//! returns a legal history of the script and its end. All that is claimed of a lawful history (`HoldsAndSettles`)
+//! holds of it, and it comes with what each caller reported of its events (`AreAccounts`). We do not prove anything
+//! about time or fairness: that a thread is scheduled, that a turn comes, or that `run` returns.
 #![tactic(auto)]
 
 mod desk;

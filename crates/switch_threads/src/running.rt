@@ -1,9 +1,9 @@
-//! A run: rounds of workers and driver, until the driver is told an end.
+//! A run: rounds of workers and driver, until the driver gets an end.
 
 ghost use Rattle.std.specs.Prelude.{◌≡◌, ◌+◌, ◌<◌, [], All, Some, length, IfOk, IfSome, OnOk, vec_len};
 ghost use Rattle.net_script.specs.Scripts.{IsScript, ScriptOf};
-ghost use Rattle.fabric_world.specs.Histories.{IsLegal, end_of};
-ghost use Rattle.fabric_settling.specs.Claims.{HoldsAndSettles};
+ghost use Rattle.net_world.specs.Histories.{IsLegal, end_of};
+ghost use Rattle.net_settling.specs.Claims.{HoldsAndSettles};
 ghost use Rattle.fabric_book.specs.Accounts.{AreAccounts};
 ghost use Rattle.fabric_turn.specs.Names.{turnstile_id};
 ghost use Rattle.fabric_turn.specs.Seats.{HasAllNumbers};
@@ -15,35 +15,35 @@ use crate::gate::Gate;
 use crate::rousing::Roused;
 use crate::shift::{FIRST, Hall, Shift, Then, party_after};
 use crate::worker::Worker;
-use an_base::memory::OutOfMemory;
 use an_base::place::Place;
+use common_values::memory::OutOfMemory;
 use fabric_book::account::Account;
 use fabric_book::book::Book;
 use fabric_book::solo::Run;
-use fabric_state::ending::Ending;
 use fabric_turn::{Seat, Turnstile};
 use net_script::script::Script;
+use net_state::ending::Ending;
 use std::alloc::Global;
 use std::sync::Wait;
 use std::thread::{Threads, for_each_chunk_mut, join_mut};
 
-/// A run, with what is told of the events of each caller.
+/// A run, with the lines that report the events of each caller.
 #[derive(Drop)]
 pub struct Told {
     /// The run.
     pub run: Run,
-    /// What is told of the events of the driver, and then of those of each worker in the order of the script.
+    /// The lines of the driver's events, and then of each worker's in the order of the script.
     pub accounts: Vec<Account>,
 }
 
 // The most workers that have a thread of their own at any gate.
 const FEW: usize = 4;
 
-// How many threads have the workers between them if these are more, and the gate lets them go. The calls of the book
-// follow one another, and with fewer workers in each, threads wait for one another longer than they work.
+// The number of threads that share the workers if there are more, and the gate permits it. The calls of the book
+// follow one another; with fewer workers in each, threads wait for one another longer than they work.
 const THREADS: usize = 2;
 
-// A worker for each switch of a script, and the seat that is left.
+// Creates a worker for each switch of a script, and returns them with the seat that is left.
 fn open(
     alloc: Global,
     script: &Script,
@@ -67,7 +67,7 @@ fn open(
     Ok((seat, workers))
 }
 
-// The workers of a party get ready for a turn each, of whom these are roused.
+// Prepares a turn for each worker of a party; `roused` says which are woken.
 fn prepare<R: Wait, G: Gate>(rt: &R, gate: &G, roused: Roused, workers: &mut [Worker])
     ensures { HaveCalled workers.old workers.new }
 {
@@ -76,7 +76,7 @@ fn prepare<R: Wait, G: Gate>(rt: &R, gate: &G, roused: Roused, workers: &mut [Wo
     }
 }
 
-// Those that are to make a turn make it, one after the other.
+// Makes the turns that are due, one after the other.
 fn ask<R: Wait>(rt: &R, turnstile: &Turnstile<Book>, hall: &mut Hall, workers: &mut [Worker])
     requires workers { All (λ worker. worker.0 ≡ turnstile_id turnstile.now) workers.old }
     ensures { HaveCalled workers.old workers.new }
@@ -86,7 +86,7 @@ fn ask<R: Wait>(rt: &R, turnstile: &Turnstile<Book>, hall: &mut Hall, workers: &
     }
 }
 
-// Those that made a turn end it.
+// Ends the turns that were made.
 fn finish<R: Wait, G: Gate>(rt: &R, gate: &G, workers: &mut [Worker])
     ensures { HaveCalled workers.old workers.new }
 {
@@ -95,19 +95,19 @@ fn finish<R: Wait, G: Gate>(rt: &R, gate: &G, workers: &mut [Worker])
     }
 }
 
-// Whether some of these workers are to make a turn.
+// Reports whether some of these workers make a turn.
 fn are_asking(workers: &[Worker]) -> bool {
     workers.iter().any(|worker| worker.is_asking())
 }
 
-// Whether memory was wanting to some of these workers.
+// Reports whether an allocation failed for some of these workers.
 fn have_failed(workers: &[Worker]) -> bool {
     workers.iter().any(|worker| worker.failed())
 }
 
-// The workers of a party ask if some have something to ask for, and rest if none has. What is large in the
-// book comes to a processor once for all of them, since the other threads wait at the door. Answers what the party
-// is to do next.
+// Makes the workers of a party ask if some have something to ask for, and otherwise rest. A processor loads the
+// large data of the book once for all of them, because the other threads wait at the door. Returns what the party
+// does next.
 fn ask_or_rest<R: Wait>(
     rt: &R,
     turnstile: &Turnstile<Book>,
@@ -126,7 +126,8 @@ fn ask_or_rest<R: Wait>(
     Then::Turn(shift.take_roused(hall, party))
 }
 
-// The workers of a party make a turn each, of whom these are roused, or rest. Answers what the party is to do next.
+// Makes a turn for each worker of a party, or rests; `roused` says which are woken. Returns what the party does
+// next.
 fn turn<R: Wait, G: Gate>(
     rt: &R,
     turnstile: &Turnstile<Book>,
@@ -145,8 +146,8 @@ fn turn<R: Wait, G: Gate>(
     then
 }
 
-// The workers of a party make turns, in the first of which these are roused, and rest, until the party is to do
-// something else. Answers whether the driver is to make its steps.
+// Makes turns for the workers of a party, in the first of which `roused` are woken, and rests, until the party must
+// do something else. Reports whether the driver is to make its steps.
 fn work<R: Wait, G: Gate>(
     rt: &R,
     turnstile: &Turnstile<Book>,
@@ -170,7 +171,7 @@ fn work<R: Wait, G: Gate>(
     unreachable!()
 }
 
-// The workers of a party without the driver make the turns of a shift.
+// Makes the turns of a shift for a party without the driver.
 fn stay<R: Wait, G: Gate>(
     rt: &R,
     turnstile: &Turnstile<Book>,
@@ -186,7 +187,7 @@ fn stay<R: Wait, G: Gate>(
     work(rt, turnstile, gate, shift, party, Roused::none(), workers);
 }
 
-// All workers make the turns of a shift, so many in each thread.
+// Makes the turns of a shift for all workers, `each` in each thread.
 fn work_all<R: Threads + Wait + Sync, G: Gate>(
     rt: &R,
     turnstile: &Turnstile<Book>,
@@ -210,7 +211,7 @@ fn work_all<R: Threads + Wait + Sync, G: Gate>(
     );
 }
 
-// The driver makes its steps, and all workers are roused. Answers which are, of those of its party.
+// Makes the driver's steps, and wakes all workers. Returns those of its party that are woken.
 fn drive<R: Wait>(rt: &R, turnstile: &Turnstile<Book>, shift: &Shift, driver: &mut Driver) -> Roused
     requires { driver.old.seat.0 ≡ turnstile_id turnstile.now }
     ensures { HasCalled driver.old.seat driver.new.seat }
@@ -220,7 +221,7 @@ fn drive<R: Wait>(rt: &R, turnstile: &Turnstile<Book>, shift: &Shift, driver: &m
     shift.rouse_all(hall, driver.has_ended())
 }
 
-// The driver and the workers of its party make the rounds of a shift, the driver first.
+// Makes the rounds of a shift for the driver and the workers of its party, the driver first.
 fn lead<R: Wait, G: Gate>(
     rt: &R,
     turnstile: &Turnstile<Book>,
@@ -243,7 +244,7 @@ fn lead<R: Wait, G: Gate>(
     }
 }
 
-// How many of so many workers a thread has: one if they may wait for one another.
+// Returns the number of workers in a thread: one if they can wait for one another.
 fn workers_each(waits: bool, workers: usize) -> usize
     ensures { 0 < result }
 {
@@ -253,7 +254,7 @@ fn workers_each(waits: bool, workers: usize) -> usize
     workers.div_ceil(THREADS)
 }
 
-// A shift of the driver with the first workers and, beside them, the other ones, so many in each thread.
+// Makes a shift of the driver with the first workers and, in parallel, the other ones, `each` in each thread.
 fn make_beside<R: Threads + Wait + Sync, G: Gate>(
     rt: &R,
     turnstile: &Turnstile<Book>,
@@ -288,7 +289,7 @@ fn make_beside<R: Threads + Wait + Sync, G: Gate>(
     );
 }
 
-// A shift: in each of its rounds the driver and all workers.
+// Makes a shift: in each of its rounds the driver and all workers.
 fn make<R: Threads + Wait + Sync, G: Gate>(
     rt: &R,
     turnstile: &Turnstile<Book>,
@@ -306,7 +307,7 @@ fn make<R: Threads + Wait + Sync, G: Gate>(
     make_beside(rt, turnstile, gate, each, driver, first, others);
 }
 
-// Shifts, until the driver is told an end.
+// Makes shifts until the driver gets an end.
 fn shifts<R: Threads + Wait + Sync, G: Gate>(
     rt: &R,
     turnstile: &Turnstile<Book>,
@@ -332,7 +333,7 @@ fn shifts<R: Threads + Wait + Sync, G: Gate>(
     unreachable!()
 }
 
-// The seats of all workers joined to the driver's, the last one first, and what is told of the events of each added.
+// Joins the seats of all workers to the driver's, the last one first, and adds the lines of each worker's events.
 fn join_workers(
     script: &Script,
     turnstile: &Turnstile<Book>,
@@ -359,7 +360,7 @@ fn join_workers(
     Ok(seat)
 }
 
-// All seats joined into one, and what is told of the events of each caller, in the order of their numbers.
+// Joins all seats into one, and returns it with the lines of each caller's events, in the order of their numbers.
 fn joined(
     alloc: Global,
     script: &Script,
@@ -382,7 +383,7 @@ fn joined(
     Ok((seat, accounts))
 }
 
-// The whole run, whose history the seat has seen.
+// Returns the whole run, whose history the seat has seen.
 fn close(turnstile: Turnstile<Book>, seat: Seat<Book>, end: Ending, accounts: Vec<Account>) -> Told
     requires seat { (script : ScriptOf) × IsWhole (turnstile_id turnstile) script seat }
     ensures legal { (script : ScriptOf) → IsWhole (turnstile_id turnstile) script seat
@@ -400,8 +401,8 @@ fn close(turnstile: Turnstile<Book>, seat: Seat<Book>, end: Ending, accounts: Ve
     }
 }
 
-// The run with this turnstile, which has its first seat alone. Answers the seat that has seen the whole history, the
-// end, and what is told of the events of each caller.
+// Makes the run with this turnstile, of which only the first seat exists. Returns the seat that has seen the whole
+// history, the end, and the lines of each caller's events.
 fn run_with<R: Threads + Wait + Sync, G: Gate>(
     rt: &R,
     alloc: Global,
@@ -423,13 +424,16 @@ fn run_with<R: Threads + Wait + Sync, G: Gate>(
     Ok((seat, end, accounts))
 }
 
-/// A run of the network of a script: a worker for each switch and the driver, in threads, until the driver is
-/// told an end. `gate` is called round each turn of a worker. It gives a legal history and its end; and
-/// all that is claimed of a lawful history holds of it, also how soon it settles. With it what each caller
-/// told of its events: the driver, and the workers in the order of the script.
+/// Runs the network of `script`: a worker for each switch and the driver, in threads, until the driver gets an end.
+/// `gate` is called around each turn of a worker. Returns a legal history and its end; all that is claimed of a
+/// lawful history holds of it, also how soon it settles. With it come the lines that each caller reported of its
+/// events: the driver's, and the workers' in the order of the script.
 ///
-/// It may never return: nothing is promised of when a turn comes, nor that a thread is served at all. Which
-/// of the legal histories it is, and with which end, may differ from run to run.
+/// The call can run for ever: we do not prove when a turn comes, or that a thread is scheduled. Which legal history
+/// it returns, and with which end, can differ from run to run.
+///
+/// # Errors
+/// `OutOfMemory` if an allocation fails.
 pub fn run<R: Threads + Wait + Sync, G: Gate>(
     rt: &R,
     alloc: Global,

@@ -1,17 +1,18 @@
 //! The shift that threads make together, and all that they wait for.
 //!
-//! The workers stand in parties, each of which has a thread, and the driver goes with the first of them. One party
-//! at a time is behind the door: there the driver, or all workers of a party one after the other, ask. With the
-//! door closed behind it a party reads and changes what all have in common, the `Hall`, and nowhere else.
+//! The workers are divided into parties, each of which has a thread; the driver belongs to the first party. One
+//! party at a time is behind the door: there the driver, or all workers of a party one after the other, ask. With
+//! the door closed behind it a party reads and changes the shared data, the `Hall`, and nowhere else.
 //!
-//! A party that has nothing to ask for rests, until one of its workers is roused. If all rest and nobody is
-//! roused the first one goes on, with the driver, after whose steps all workers are roused. So as long as the shift
-//! is not over one party at least does not rest. It is over once the driver is told an end, or memory was wanting
-//! to a worker or the driver. Who rests looks for a while whether it is to go on, and then sleeps at a condition
-//! variable. A shift needs a thread for each party: if one does not begin soon, the shift is over at once,
-//! and each party makes what there is to do for it alone, in whatever order they come.
+//! A party that has nothing to ask for rests until one of its workers is woken. If all rest and no worker is woken,
+//! the first party continues, with the driver, after whose steps all workers are woken. So as long as the shift is
+//! not over, at least one party does not rest. The shift is over once the driver gets an end, or an allocation of a
+//! worker or the driver fails. A resting party checks for a while whether it can continue, and then sleeps at a
+//! condition variable. A shift needs a thread for each party: if one does not begin soon, the shift is over at
+//! once, and each party does what there is to do for it alone, in whatever order they come.
 //!
-//! `wakes.pml` beside the sources is a model of all this, and `tests/wakes` walks through its states.
+//! `wakes.pml` next to the sources is a model of all this, and `tests/autonet/by-hand/wakeup-model` explores its
+//! states.
 
 use crate::rousing::{Roused, Rousing};
 use std::hint::spin_loop;
@@ -22,25 +23,25 @@ use std::thread::yield_now;
 /// The party of the driver.
 pub(crate) const FIRST: usize = 0;
 
-// How often a party looks whether all others have begun.
+// How often a party checks whether all others have begun.
 const BEGIN_LOOKS: u32 = 2_000;
 
-// How often one that rests looks whether it is to go on, before it sleeps: for some milliseconds, so that it is
-// mostly found awake, and need not be woken.
+// How often a resting party checks whether it can continue, before it sleeps: for some milliseconds, so that its
+// thread is mostly found awake, and need not be notified.
 const REST_LOOKS: u32 = 4_000;
 
-// How often one that stands at the door looks whether it is open before it sleeps, how often of these before it gives
-// way at each look, and for how many pauses it waits between two looks until then.
+// How often a party at the door checks whether it is open before it sleeps, how many of these checks it makes
+// before it yields at each one, and for how many pauses it waits between two checks until then.
 const DOOR_LOOKS: u32 = 1_000;
 
 const NEAR_LOOKS: u32 = 16;
 
 const SPINS: u32 = 32;
 
-// How many bits there are for parties.
+// The number of bits for parties.
 const MARKS: usize = 64;
 
-// Waits a little at the door, after so many looks in vain.
+// Waits a little at the door, after `looks` checks in vain.
 fn stand(looks: u32) {
     if looks >= NEAR_LOOKS {
         yield_now();
@@ -51,28 +52,28 @@ fn stand(looks: u32) {
     }
 }
 
-// The bit of a party. Of more than 64 some share one, and may look at the door for nothing.
+// Returns the bit of a party. If there are more than 64, some share a bit, and can check the door in vain.
 fn mark(party: usize) -> u64 {
     1u64 << (party % MARKS)
 }
 
-/// What a party is to do next.
+/// What a party does next.
 #[derive(Clone, Copy)]
 pub(crate) enum Then {
-    /// Its workers are to make turns, of whom these are roused.
+    /// Its workers make turns; these are woken.
     Turn(Roused),
-    /// The driver is to make its steps: all rest.
+    /// The driver makes its steps: all rest.
     Drive,
     /// Nothing: the shift is over.
     End,
 }
 
-/// What all parties have in common, behind the door.
+/// What all parties share, behind the door.
 #[derive(Drop)]
 pub(crate) struct Hall {
-    /// Which workers are roused.
+    /// Which workers are woken.
     pub rousing: Rousing,
-    // How many parties there are, how many have begun, and how many rest.
+    // The number of parties, of those that have begun, and of those that rest.
     parties: usize,
     begun: usize,
     resting: usize,
@@ -80,17 +81,17 @@ pub(crate) struct Hall {
 }
 
 impl Hall {
-    // Whether all parties rest, and nobody is roused.
+    // Reports whether all parties rest, and no worker is woken.
     fn all_rest(&self) -> bool {
         self.resting == self.parties && !self.rousing.has_any()
     }
 
-    // Whether a party that rests is to go on.
+    // Reports whether a party that rests must continue.
     fn is_to_go_on(&self, party: usize) -> bool {
         self.rousing.has(party) || self.is_over || (party == FIRST && self.all_rest())
     }
 
-    // The parties that are to go on where they rest, a bit for each.
+    // Returns the parties that must continue where they rest, a bit for each.
     fn called(&self) -> u64 {
         let mut called = 0;
         for party in 0..self.parties {
@@ -101,7 +102,7 @@ impl Hall {
         called
     }
 
-    // What a party that went on is to do.
+    // Returns what a party that continues does.
     fn then(&mut self, party: usize) -> Then {
         if self.rousing.has(party) {
             return Then::Turn(self.rousing.take(party));
@@ -110,17 +111,17 @@ impl Hall {
     }
 }
 
-/// A shift of so many parties, each in a thread of its own if it can.
+/// A shift of several parties, each in a thread of its own if possible.
 #[derive(Drop)]
 pub(crate) struct Shift {
     door: Mutex<Hall>,
     bell: Condvar,
-    // Which parties were called last. Who rests looks here before it sleeps, and nothing else rests on it.
+    // Which parties were called last. A resting party checks it before it sleeps; nothing else depends on it.
     called: AtomicU64,
 }
 
 impl Shift {
-    /// A shift that nobody has begun, of parties of so many workers, all of which are roused.
+    /// Creates a shift that no party has begun, of `parties` parties with `each` workers, all of which are woken.
     pub fn new(parties: usize, each: usize) -> Shift {
         Shift {
             door: Mutex::new(Hall {
@@ -135,7 +136,7 @@ impl Shift {
         }
     }
 
-    /// Waits until no party is behind the door. It stays closed behind this one as long as the guard is kept.
+    /// Waits until no party is behind the door. The door stays closed behind this one as long as the guard is kept.
     pub fn enter<R: Wait>(&self, rt: &R) -> MutexGuard<'_, Hall> {
         for looks in 0..DOOR_LOOKS {
             if let Some(hall) = self.door.try_lock() {
@@ -146,7 +147,7 @@ impl Shift {
         self.door.lock(rt)
     }
 
-    // Opens the door, and calls those that are to go on.
+    // Opens the door, and calls the parties that must continue.
     fn leave(&self, hall: MutexGuard<'_, Hall>) {
         let called = hall.called();
         self.called.store(called, Ordering::SeqCst);
@@ -156,7 +157,7 @@ impl Shift {
         }
     }
 
-    /// A party begins. The shift is over if others do not begin within a while.
+    /// Begins the shift for a party. The shift is over if others do not begin within a while.
     pub fn begin<R: Wait>(&self, rt: &R) {
         let mut hall = self.enter(rt);
         hall.begun = hall.begun.saturating_add(1);
@@ -176,7 +177,7 @@ impl Shift {
         self.leave(hall);
     }
 
-    // Looks for a while whether a party is called.
+    // Checks for a while whether a party is called.
     fn look(&self, party: usize) {
         for _ in 0..REST_LOOKS {
             if self.called.load(Ordering::SeqCst) & mark(party) != 0 {
@@ -186,7 +187,7 @@ impl Shift {
         }
     }
 
-    /// A party that made its turns lets the others in. Answers which of its workers were roused meanwhile.
+    /// Lets the others in after a party made its turns. Returns those of its workers that were woken meanwhile.
     pub fn take_roused(&self, hall: MutexGuard<'_, Hall>, party: usize) -> Roused {
         let mut hall = hall;
         let roused = hall.rousing.take(party);
@@ -194,8 +195,8 @@ impl Shift {
         roused
     }
 
-    /// A party that has nothing to ask for rests until it is to go on. The shift is over if memory was
-    /// wanting to one of its workers. Answers what it is to do next.
+    /// Makes a party that has nothing to ask for rest until it must continue. The shift is over if an allocation of
+    /// one of its workers failed. Returns what the party does next.
     pub fn rest<R: Wait>(
         &self,
         rt: &R,
@@ -217,8 +218,8 @@ impl Shift {
         then
     }
 
-    /// The driver made its steps: all workers are roused, and the shift is over if the driver has ended.
-    /// Answers which are roused, of those of its party.
+    /// Wakes all workers after the driver made its steps; the shift is over if the driver has ended. Returns those
+    /// of the driver's party that are woken.
     pub fn rouse_all(&self, hall: MutexGuard<'_, Hall>, has_ended: bool) -> Roused {
         let mut hall = hall;
         hall.is_over = hall.is_over || has_ended;
@@ -227,7 +228,7 @@ impl Shift {
     }
 }
 
-/// The party that has the worker at a place after those of the first party, of parties of so many.
+/// Returns the party of the worker at an index after those of the first party, in parties of `each` workers.
 pub(crate) fn party_after(worker: usize, each: usize) -> usize {
     worker.checked_div(each).unwrap_or(0).saturating_add(1)
 }

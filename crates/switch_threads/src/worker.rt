@@ -7,8 +7,8 @@ ghost use Rattle.switch_threads.specs.Runs.{HasCalled, IsToldAt};
 use crate::desk::{Desk, Next, Papers};
 use crate::gate::Gate;
 use crate::rousing::{Neighbours, Rousing};
-use an_base::memory::OutOfMemory;
 use an_base::place::Place;
+use common_values::memory::OutOfMemory;
 use fabric_book::account::Account;
 use fabric_book::book::Book;
 use fabric_turn::{Seat, Turnstile};
@@ -17,9 +17,10 @@ use std::alloc::Global;
 use std::marker::Model;
 use std::sync::Wait;
 
-/// The worker of a switch: its number, its seat, how many turns it made, whether it makes one, the switches at its
-/// links, what it works with, and what it is to do next. Contracts see its seat. While it asks it has no papers,
-/// and if memory was wanting to get ready it has none any more: its switch and the book have parted then.
+/// The worker of a switch: its number, its seat, the number of turns that it made, whether it makes one, the
+/// switches at its links, what it works with, and what it does next. Contracts see its seat. While it asks it has
+/// no papers. If an allocation fails while it gets ready, it never has papers again, because its switch and the
+/// book no longer agree.
 #[derive(Drop)]
 pub(crate) struct Worker {
     number: u8,
@@ -46,7 +47,13 @@ impl Model for Worker {
 }
 
 impl Worker {
-    /// The worker of the switch at a place, which begins its first life.
+    /// Creates the worker of the switch `s`, which begins its first life.
+    ///
+    /// The caller must pass a switch of the script, and a seat of a book that was started with `script`, with the
+    /// number `s` + 1, which has seen nothing.
+    ///
+    /// # Errors
+    /// `OutOfMemory` if an allocation fails.
     pub fn new(
         alloc: Global,
         script: &Script,
@@ -72,12 +79,15 @@ impl Worker {
         })
     }
 
-    /// Whether memory was wanting.
+    /// Reports whether an allocation failed.
     pub fn failed(&self) -> bool {
         self.papers.is_none() || self.desk.tale.account.failed
     }
 
-    /// Its seat, and what is told of its events, unless memory was wanting.
+    /// Returns the worker's seat, and the lines of its events.
+    ///
+    /// # Errors
+    /// `OutOfMemory` if an allocation of the worker failed.
     pub fn into_parts(self) -> Result<(Seat<Book>, Account), OutOfMemory>
         ensures seat { IfOk result (λ parts. parts.0 ≡ self) }
         ensures told { IfOk result (λ parts. IsToldAt self parts.1) }
@@ -94,12 +104,13 @@ impl Worker {
         Ok((seat, desk.into_account()?))
     }
 
-    /// Whether it is to make a turn.
+    /// Reports whether the worker makes a turn.
     pub fn is_asking(&self) -> bool {
         self.is_asking
     }
 
-    /// Gets ready for a turn, if there is to be one: one that found nothing to do makes none until it is roused.
+    /// Gets ready for a turn, if there is to be one: a worker that found nothing to do makes none until it is
+    /// woken.
     pub fn prepare<R: Wait, G: Gate>(&mut self, rt: &R, gate: &G, is_roused: bool)
         ensures { HasCalled self.old self.new }
     {
@@ -131,7 +142,7 @@ impl Worker {
         }
     }
 
-    /// Makes the turn, if there is to be one, and rouses those to whom it sent frames in it.
+    /// Makes the turn, if there is to be one, and wakes the workers to whom it sent frames in it.
     pub fn turn<R: Wait>(&mut self, rt: &R, turnstile: &Turnstile<Book>, rousing: &mut Rousing)
         requires { self.old.0 ≡ turnstile_id turnstile.now }
         ensures { HasCalled self.old self.new }

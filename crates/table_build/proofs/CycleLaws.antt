@@ -1,7 +1,7 @@
 use Rattle.std.proofs.Common.{◌≡◌, ◌∙◌, sym, subst, refl, ℕ, zero, suc, List, Some, Bool, true, false, inl, inr}
 use Rattle.std.proofs.lemmas.Bool.{cases_Bool}
 use Rattle.an_base.specs.Values.{EntryOf}
-use Rattle.an_base.proofs.OrderingLemmas.{less_is}
+use Rattle.common_values.proofs.OrderingLemmas.{less_is}
 use Rattle.topo_graph.specs.Topology.{far_of, IsGraph}
 use Rattle.topo_graph.proofs.FarLemmas.{one_far}
 use Rattle.updown.specs.Routes.{height_cmp, is_up_end}

@@ -3,7 +3,7 @@ use Rattle.std.proofs.lemmas.Bool.{eqb-true, eq-eqb}
 use Rattle.std.proofs.lemmas.List.Elements.{All-nil, All-weaker}
 use Rattle.an_base.specs.Values.{EntryOf}
 use Rattle.an_base.specs.Rows.{ports_of}
-use Rattle.an_base.proofs.ListLemmas.{All-from_members}
+use Rattle.common_values.proofs.ListLemmas.{All-from_members}
 use Rattle.an_base.proofs.PortSetLemmas.{port_is, is_port, ports_rise, rising_few}
 use Rattle.topo_graph.specs.Topology.{far_of, IsGraph}
 use Rattle.topo_graph.proofs.FarLemmas.{one_far}

@@ -3,7 +3,7 @@ use Rattle.std.proofs.lemmas.List.{append-nil}
 use Rattle.std.proofs.lemmas.Bool.{cases_Bool, cases_eq}
 use Rattle.std.specs.Ordering.{is_lt}
 use Rattle.an_base.specs.Values.{EntryOf}
-use Rattle.an_base.proofs.OrderingLemmas.{less_is}
+use Rattle.common_values.proofs.OrderingLemmas.{less_is}
 use Rattle.topo_graph.specs.Topology.{far_of, IsGraph, IsTree}
 use Rattle.updown.specs.Routes.{is_up_end, height_cmp, LegalRoute, DownRoute}
 use Rattle.updown.proofs.RouteLemmas.{height_total, not_both_higher, leads_down, legal_first, legal_none, down_first, down_legal, down_none}

@@ -1,5 +1,5 @@
 use Rattle.std.proofs.Common.{◌≡◌, ◌≢◌, sym, subst, refl, ℕ, ◌+◌, ◌*◌, ◌<◌, ◌≤◌, List, Option, Some, None, Bool, true, false, not, arith, length, Contains, inl, inr, ◌==◌, ◌↔◌}
-use Rattle.an_base.proofs.RangeLemmas.{Contains-kept}
+use Rattle.common_values.proofs.RangeLemmas.{Contains-kept}
 use Rattle.std.specs.Prelude.{if◌then◌else◌, filter}
 use Rattle.std.specs.Option.{option_map_or}
 use Rattle.std.proofs.lemmas.Bool.{cases_Bool, and_parts, and_from}
@@ -19,7 +19,7 @@ use Rattle.table_build.proofs.LengthLaws.{way_short}
 use Rattle.table_build.specs.Made.{exit_ports, leads_in, shortest, left_after, is_exit, exits_to}
 use Rattle.table_build.proofs.MadeLists.{range_rising, find_least}
 use Rattle.table_build.proofs.ShortestLaws.{found, finds, external}
-use Rattle.an_base.proofs.MemberLemmas.{one_rising}
+use Rattle.common_values.proofs.MemberLemmas.{one_rising}
 
 -- the search finds the least length of the ways
 pub shortest_least : (es : List EntryOf) (up : Bool) (x y : ℕ) → IsGraph es → x < length es → IsLeast (HasWay es up x y) (shortest es y up x)

@@ -6,9 +6,9 @@ use Rattle.std.proofs.lemmas.List.Elements.{All-weaker, Contains-append_left, Co
 use Rattle.std.proofs.lemmas.List.FromFn.{get_or-range_with_len, length-range_with_len}
 use Rattle.updown.specs.Routes.{IsLeast}
 use Rattle.updown.proofs.LeastLemmas.{least_iff}
-use Rattle.an_base.proofs.ListLemmas.{AllPairs-head, AllPairs-tail}
-use Rattle.an_base.proofs.PairLemmas.{AllPairs-append}
-use Rattle.an_base.proofs.FlatMapLemmas.{All-flat_map}
+use Rattle.common_values.proofs.ListLemmas.{AllPairs-head, AllPairs-tail}
+use Rattle.common_values.proofs.PairLemmas.{AllPairs-append}
+use Rattle.common_values.proofs.FlatMapLemmas.{All-flat_map}
 
 -- the lists of the elements of a list
 pub in_flat : {X A : Type 0} (f : X → List A) (xs : List X) (x : X) (a : A) → Contains xs x → Contains (f x) a → Contains (flat_map f xs) a

@@ -1,6 +1,6 @@
 -- The table that is computed is the table of its member.
 use Rattle.std.proofs.Common.{◌≡◌, ◌≢◌, ◌∙◌, sym, ap, subst, refl, ℕ, ◌<◌, ◌≤◌, List, [], ◌∷◌, Option, Some, None, Bool, true, false, arith, length, Contains, All, AllPairs, inl, inr, ◌==◌, ◌||◌}
-use Rattle.an_base.proofs.RangeLemmas.{Contains-kept}
+use Rattle.common_values.proofs.RangeLemmas.{Contains-kept}
 use Rattle.std.specs.Prelude.{filter, position, slice_index, Any, is_some}
 use Rattle.std.specs.List.{flat_map, range_with_len}
 use Rattle.std.specs.Option.{option_map_or}
@@ -22,8 +22,8 @@ use Rattle.table_build.proofs.TableLemmas.{one_number}
 use Rattle.table_build.specs.Made.{exits_to, row_to, rows_for, rows_of, table_of}
 use Rattle.table_build.proofs.MadeLists.{in_flat, flat_rising, in_range, range_rising}
 use Rattle.table_build.proofs.MadeExits.{made_exits, one_exits}
-use Rattle.an_base.proofs.FlatMapLemmas.{All-flat_map}
-use Rattle.an_base.proofs.MemberLemmas.{one_rising}
+use Rattle.common_values.proofs.FlatMapLemmas.{All-flat_map}
+use Rattle.common_values.proofs.MemberLemmas.{one_rising}
 
 differ : (x y : ℕ) → x ≢ y → (x == y) ≡ false
 differ x y other = grind (arith, nat_tests)

@@ -12,8 +12,8 @@ use Rattle.table_build.specs.declared.way.Way.{Way}
 use Rattle.table_build.specs.Exits.{AreExits, IsEntry, may_go_up}
 use Rattle.table_build.specs.Routing.{place_at, ArePlaces, row_of}
 use Rattle.table_build.specs.Tables.{IsRow, IsBefore, IsTable, IsWay, AreWays, AreRowsBelow}
-use Rattle.an_base.proofs.PairLemmas.{AllPairs-map, AllPairs-append}
-use Rattle.an_base.proofs.ListLemmas.{Any-front, Any-back, Any-map}
+use Rattle.common_values.proofs.PairLemmas.{AllPairs-map, AllPairs-append}
+use Rattle.common_values.proofs.ListLemmas.{Any-front, Any-back, Any-map}
 
 -- a number that no place has is no other member's
 pub no_member : (es : List EntryOf) (numbers : List ℕ) (places : List (Option ℕ)) (x n : ℕ) → ArePlaces numbers (length es) places → (place_at places n ≡ None) ⊎ (place_at places n ≡ Some x) → (y : ℕ) → y < length es → y ≢ x → slice_index numbers y ≢ n

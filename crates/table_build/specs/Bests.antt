@@ -1,4 +1,4 @@
--- Ways from a member, and the best of them: what a cheapest one costs, and the ports by which such begin.
+-- Paths from a member, and the best of them: the lowest cost, and the first ports of the paths of that cost.
 use Rattle.std.specs.Prelude.{◌≡◌, ◌↔◌, ◌⊎◌, ◌<◌, ◌≤◌, ◌+◌, ◌++◌, ℕ, min, List, [], ◌∷◌, Option, Some, None}
 use Rattle.std.specs.Prelude.{Bool, true, false, length, slice_index_or, if◌then◌else◌}
 use Rattle.std.specs.Int.{bit_at}
@@ -10,8 +10,8 @@ use Rattle.table_build.specs.declared.best.Search.{Search}
 use Rattle.table_build.specs.declared.link.Link.{Link}
 use Rattle.table_build.specs.Links.{link_at}
 
--- The ports lead from a place over links to the target, upward only if `up` and downward only if
--- `down`; after a link downward none leads upward.
+-- A list of ports leads from `place` over links to the target, upward only if `up` and downward only if `down`; after a
+-- downward link none leads upward.
 abbrev pub Goes : List EntryOf → Bool → Bool → ℕ → List ℕ → ℕ → Type 0
 Goes entries up down place [] target = place ≡ target
 Goes entries up down place (port ∷ ports) target =
@@ -19,18 +19,18 @@ Goes entries up down place (port ∷ ports) target =
     × (((is_up_end entries next place ≡ true) × (up ≡ true) × Goes entries up down next ports target)
     ⊎ ((is_up_end entries next place ≡ false) × (down ≡ true) × Goes entries false down next ports target))
 
--- what a link costs, and a way
+-- the cost of a link (`link_cost`), and of a path (`cost_of`)
 abbrev pub link_cost : Bool → ℕ
 link_cost any = if any then 0 else 1
 
 abbrev pub cost_of : Bool → List ℕ → ℕ
 cost_of any ports = if any then 0 else length ports
 
--- the port is among these
+-- `port` is in the set `ports`
 abbrev pub HasPort : ℕ → ℕ → Type 0
 HasPort ports port = bit_at ports port ≡ 1
 
--- what a cheapest of these ways costs, and the ports by which such begin
+-- `best` has the lowest cost of the paths `Ways`, and the first ports of the paths of that cost
 pub record AreBest (any : Bool) (Ways : List ℕ → Type 0) (best : Best) : Type 0 where
   pub way : (ports : List ℕ) × Ways ports × (cost_of any ports ≡ best.cost)
   pub least : (ports : List ℕ) → Ways ports → best.cost ≤ cost_of any ports
@@ -41,12 +41,12 @@ pub record AreBest (any : Bool) (Ways : List ℕ → Type 0) (best : Best) : Typ
       (port : ℕ) (rest : List ℕ) → Ways (port ∷ rest) → cost_of any (port ∷ rest) ≡ best.cost
       → HasPort best.ports port
 
--- the best of these ways, or none if there is none
+-- the best of the paths `Ways`, or None if there is none
 abbrev pub IsBest : Bool → (List ℕ → Type 0) → Option Best → Type 0
 IsBest any Ways None = (ports : List ℕ) → Ways ports → ⊥
 IsBest any Ways (Some best) = AreBest any Ways best
 
--- the better of two, and if they cost the same what both have
+-- `better` is the better of `one` and `other`; if they cost the same, it has the ports of both
 pub record IsBetter (one other better : Best) : Type 0 where
   pub cost : better.cost ≡ min one.cost other.cost
   pub ports :
@@ -55,36 +55,36 @@ pub record IsBetter (one other better : Best) : Type 0 where
       ↔ (((one.cost ≤ other.cost) × HasPort one.ports port)
       ⊎ ((other.cost ≤ one.cost) × HasPort other.ports port))
 
--- so of two that may be none
+-- `result` is the better of two best paths, each of which can be missing
 abbrev pub IsBetterOf : Option Best → Option Best → Option Best → Type 0
 IsBetterOf None other result = result ≡ other
 IsBetterOf (Some one) None result = result ≡ Some one
 IsBetterOf (Some one) (Some other) result =
     (better : Best) × (result ≡ Some better) × IsBetter one other better
 
--- longer by a link at a port of a place, which begins the ways that begin there
+-- `longer` is `best` with one more link, at `port` of `place`; paths that begin at `place` begin with that port
 pub record IsLonger (any : Bool) (from place port : ℕ) (best longer : Best) : Type 0 where
   pub cost : longer.cost ≡ best.cost + link_cost any
   pub ports :
       (other : ℕ)
       → HasPort longer.ports other ↔ (HasPort best.ports other ⊎ ((place ≡ from) × (other ≡ port)))
 
--- the best ways of a table to a place
+-- the best paths that a table has to `place`
 abbrev pub best_at : List (Option Best) → ℕ → Option Best
 best_at bests place = slice_index_or bests place None
 
--- the ways whose last link is this one, which leads to where they end from its far place
+-- the last link of the path `route` is `link`, from its far member
 pub record Over (entries : List EntryOf) (search : Search) (link : Link) (route : List ℕ) : Type 0 where
   pub before : List ℕ
   pub ports : route ≡ before ++ link.by ∷ []
   pub way : Goes entries search.up search.down search.from before link.place
 
--- those whose last link is one of the links of a list before end
+-- the last link of the path `route` is one of `links` before the index `end`
 abbrev pub OverBelow : List EntryOf → Search → List Link → ℕ → List ℕ → Type 0
 OverBelow entries search links end route =
     (index : ℕ) × (index < end) × Over entries search (link_at links index) route
 
--- the table has the best ways to the far place of a link
+-- the table `bests` has the best paths to the far member of `link`
 pub record IsKnown (entries : List EntryOf) (search : Search) (bests : List (Option Best)) (link : Link)
     : Type 0 where
   pub by : link.by ≤ 12
@@ -92,7 +92,7 @@ pub record IsKnown (entries : List EntryOf) (search : Search) (bests : List (Opt
       IsBest search.any (λ ports. Goes entries search.up search.down search.from ports link.place)
       (best_at bests link.place)
 
--- the table has the best ways to the far places of a place that are lower, or to those that are higher
+-- the table `bests` has the best paths to the neighbours of `place` that are lower, or to those that are higher
 pub record KnowsFar (entries : List EntryOf) (search : Search) (lower : Bool) (bests : List (Option Best))
     (place : ℕ) : Type 0 where
   pub each :
@@ -101,23 +101,23 @@ pub record KnowsFar (entries : List EntryOf) (search : Search) (lower : Bool) (b
       → IsBest search.any (λ ports. Goes entries search.up search.down search.from ports next)
       (best_at bests next)
 
--- the search for ways upward alone
+-- the search for paths with only upward links
 abbrev pub climbing : ℕ → Bool → Search
 climbing from any = record { from = from; any = any; up = true; down = false }
 
--- the best ways from a place to each one
+-- `bests` are the best paths from `place` to every member
 pub record AreBestTo (entries : List EntryOf) (any up down : Bool) (place : ℕ) (bests : List (Option Best))
     : Type 0 where
   pub each :
       (target : ℕ) → target < length entries
       → IsBest any (λ ports. Goes entries up down place ports target) (best_at bests target)
 
--- the best legal ways from a member to each place, and those that lead downward alone
+-- the best legal paths from a member to every member, and the best with only downward links
 pub record BestsOf : Type 0 where
   pub up : List (Option Best)
   pub down : List (Option Best)
 
--- so from a member at a place
+-- `bests` are the best paths, legal and downward, from the member at index `place`
 pub record AreBestFrom (entries : List EntryOf) (any : Bool) (place : ℕ) (bests : BestsOf) : Type 0 where
   pub up : AreBestTo entries any true true place bests.up
   pub down : AreBestTo entries any false true place bests.down

@@ -14,8 +14,8 @@ use Rattle.table_build.specs.Tables.{TableOf}
 abbrev pub exit_ports : List ℕ
 exit_ports = range_with_len 1 12
 
--- Whether so many links lead from a place to the target, along a legal route or, if the way may not go up,
--- along downward links alone. A link upward is passed only if the way may go up.
+-- Whether a path of n links leads from `place` to `target`: a legal route if `up`, otherwise with only downward links.
+-- The path takes an upward link only if `up`.
 abbrev pub leads_in : List EntryOf → ℕ → ℕ → Bool → ℕ → Bool
 leads_in entries target zero up place = place == target
 leads_in entries target (suc links) up place =
@@ -28,19 +28,20 @@ leads_in entries target (suc links) up place =
     (far_of entries place port) false)
     exit_ports
 
--- the length of a shortest such way; none has more than twice as many links as there are members
+-- the length of a shortest path from `place` to `target`; none has more links than twice the number of members
 abbrev pub shortest : List EntryOf → ℕ → Bool → ℕ → Option ℕ
 shortest entries target up place =
     find (λ links. leads_in entries target links up place) (range_with_len 0 (2 * length entries))
 
--- the same after a port: any legal route after an upward link, downward links alone after a downward one
+-- the length of a shortest path after a port with the far side `far`: of a legal route after an upward link, of a path
+-- with only downward links after a downward one
 abbrev pub left_after : List EntryOf → ℕ → Bool → ℕ → ℕ × ℕ → Option ℕ
 left_after entries target up place far =
     if is_up_end entries far.0 place
     then (if up then shortest entries target true far.0 else None)
     else shortest entries target false far.0
 
--- whether a port begins a way to another member; unless any way will do, a shortest one
+-- whether `port` begins a path to another member; unless `any`, a shortest one
 abbrev pub is_exit : List EntryOf → Bool → Bool → ℕ → ℕ → ℕ → Bool
 is_exit entries any up place target port =
     not (place == target)
@@ -50,7 +51,7 @@ is_exit entries any up place target port =
 abbrev pub exits_to : List EntryOf → Bool → Bool → ℕ → ℕ → List ℕ
 exits_to entries any up place target = filter (is_exit entries any up place target) exit_ports
 
--- the row of the member at a place for an entry and a number, if the number is that of another member
+-- the row of the member at index `place` for the port `entry` and a number, if another member has that number
 abbrev pub row_to : TopoOf → Bool → ℕ → ℕ → ℕ → ℕ → List RowOf
 row_to topo any place entry number target =
     if place == target then [] else record {
@@ -64,14 +65,14 @@ abbrev pub rows_for : TopoOf → Bool → ℕ → ℕ → ℕ → List RowOf
 rows_for topo any place entry number =
     option_map_or (row_to topo any place entry number) (position (λ other. other == number) topo.numbers) []
 
--- the rows of the member at a place, by rising entry and then by rising number
+-- the rows of the member at index `place`, in ascending order of ingress port, then of number
 abbrev pub rows_of : TopoOf → Bool → ℕ → List RowOf
 rows_of topo any place =
     flat_map
     (λ entry. flat_map (rows_for topo any place entry) (range_with_len 1 126))
     (filter (is_entry topo.entries place) (range_with_len 0 13))
 
--- the table of a member of a topology, and its number there
+-- the number (`number_in`) and the table (`table_of`) of the member `me` of a topology
 abbrev pub number_in : TopoOf → LifeId → ℕ
 number_in topo me = option_map_or (slice_index topo.numbers) (place_of topo.entries me) 0
 

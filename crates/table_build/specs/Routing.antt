@@ -1,4 +1,4 @@
--- What the tables of all members share, and the row of a way.
+-- The data that the tables of all members share, and the row of a `Way`.
 use Rattle.std.specs.Prelude.{◌≡◌, ℕ, ◌<◌, List, length, Option, Some, None, slice_index, slice_index_or, Bool, if◌then◌else◌}
 use Rattle.an_base.specs.Values.{EntryOf}
 use Rattle.updown.specs.declared.order.Height.{Height}
@@ -8,11 +8,11 @@ use Rattle.table_build.specs.Links.{AreLinks}
 use Rattle.an_base.specs.Rows.{RowOf}
 use Rattle.table_build.specs.declared.way.Way.{Way}
 
--- the place that has a number
+-- the index of the member with the number `number`
 abbrev pub place_at : List (Option ℕ) → ℕ → Option ℕ
 place_at places number = slice_index_or places number None
 
--- for each number the place that has it, of the places below end
+-- `places` has, for each number, the member below `end` that has it
 pub record ArePlaces (numbers : List ℕ) (end : ℕ) (places : List (Option ℕ)) : Type 0 where
   pub count : length places ≡ 127
   pub each :
@@ -20,20 +20,20 @@ pub record ArePlaces (numbers : List ℕ) (end : ℕ) (places : List (Option ℕ
       → (place < end) × (slice_index numbers place ≡ number)
   pub whole : (place : ℕ) → place < end → place_at places (slice_index numbers place) ≡ Some place
 
--- what the tables of all members share: the place of each number, the places from the highest to the lowest,
+-- the data that the tables of all members share: the index of each number, the members from the highest to the lowest,
 -- and the links of each member
 pub record RoutingOf : Type 0 where
   pub places : List (Option ℕ)
   pub order : List Height
   pub links : List Links
 
--- those of these entries and numbers
+-- `routing` is the shared data of `entries` and `numbers`
 pub record IsRouting (entries : List EntryOf) (numbers : List ℕ) (routing : RoutingOf) : Type 0 where
   pub places : ArePlaces numbers (length entries) routing.places
   pub order : IsDescent entries routing.order
   pub links : AreLinks entries (length entries) routing.links
 
--- the row of a way
+-- the row of `way` for the port `entry`
 abbrev pub row_of : ℕ → ℕ → Bool → Way → RowOf
 row_of at entry up way =
     record { at = at; entry = entry; to = way.number; exits = if up then way.up else way.down }

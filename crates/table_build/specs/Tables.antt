@@ -13,8 +13,8 @@ pub record TableOf : Type 0 where
   pub number : ℕ
   pub rows : List RowOf
 
--- a row of the member at a place: for what comes in at an entry and goes to the number of another member, the
--- exits
+-- `row` is a row of the member at index `place`: the exits for packets that arrive at a port and go to the number of
+-- another member
 pub record IsRow (entries : List EntryOf) (numbers : List ℕ) (any : Bool) (place : ℕ) (row : RowOf)
     : Type 0 where
   pub at : row.at ≡ slice_index numbers place
@@ -25,12 +25,12 @@ pub record IsRow (entries : List EntryOf) (numbers : List ℕ) (any : Bool) (pla
   pub number : row.to ≡ slice_index numbers to
   pub exits : AreExits entries any (may_go_up entries place row.entry) place to row.exits
 
--- by entry, and then by number
+-- `one` is before `other`: by ingress port, then by number
 abbrev pub IsBefore : RowOf → RowOf → Type 0
 IsBefore one other = (one.entry < other.entry) ⊎ ((one.entry ≡ other.entry) × (one.to < other.to))
 
--- the table of the member at a place: one row for each entry and each number of another member, by rising
--- entry and then by rising number
+-- `table` is the table of the member at index `place`: one row for each ingress port and each number of another member,
+-- in ascending order of ingress port, then of number
 pub record IsTable (entries : List EntryOf) (numbers : List ℕ) (any : Bool) (place : ℕ) (table : TableOf)
     : Type 0 where
   pub number : table.number ≡ slice_index numbers place
@@ -40,17 +40,17 @@ pub record IsTable (entries : List EntryOf) (numbers : List ℕ) (any : Bool) (p
       → Any (λ row. (row.entry ≡ entry) × (row.to ≡ slice_index numbers target)) table.rows
   pub rising : AllPairs IsBefore table.rows
 
--- the table of a life of the graph
+-- `table` is the table of the member `life`
 abbrev pub IsTableOf : List EntryOf → List ℕ → Bool → LifeId → TableOf → Type 0
 IsTableOf entries numbers any life table =
     (place : ℕ) × (place_of entries life ≡ Some place) × IsTable entries numbers any place table
 
--- the exits of a table at an entry for a number, none if it has no such row
+-- the exits of `table` for packets to `number` that arrive at the port `entry`; there are none without such a row
 abbrev pub exits_of : TableOf → ℕ → ℕ → List ℕ
 exits_of table entry number =
     option_map_or (λ row. row.exits) (find (λ row. (row.entry == entry) && (row.to == number)) table.rows) []
 
--- the exits towards another member
+-- `way` has the exits of the member at index `place` towards another member
 pub record IsWay (entries : List EntryOf) (numbers : List ℕ) (any : Bool) (place : ℕ) (way : Way)
     : Type 0 where
   pub low : way.place < length entries
@@ -59,7 +59,7 @@ pub record IsWay (entries : List EntryOf) (numbers : List ℕ) (any : Bool) (pla
   pub up : AreExits entries any true place way.place way.up
   pub down : AreExits entries any false place way.place way.down
 
--- those towards the members with numbers below end
+-- `ways` are the exits towards the other members with numbers below `end`
 pub record AreWays (entries : List EntryOf) (numbers : List ℕ) (any : Bool) (place end : ℕ) (ways : List Way)
     : Type 0 where
   pub each : All (IsWay entries numbers any place) ways
@@ -69,7 +69,7 @@ pub record AreWays (entries : List EntryOf) (numbers : List ℕ) (any : Bool) (p
       → Any (λ way. way.place ≡ target) ways
   pub rising : AllPairs (λ one other. one.number < other.number) ways
 
--- the rows of the entries below end
+-- `rows` are the rows of the ingress ports below `end`
 pub record AreRowsBelow (entries : List EntryOf) (numbers : List ℕ) (any : Bool) (place end : ℕ)
     (rows : List RowOf) : Type 0 where
   pub each : All (IsRow entries numbers any place) rows

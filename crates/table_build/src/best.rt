@@ -1,4 +1,4 @@
-//! Best ways from one member to all others, in three passes along the order of places: one climbs, and two fall.
+//! Best paths from one member to all others, in three passes along the order of members: one climbs, and two fall.
 
 ghost use Rattle.std.specs.Prelude.{◌≡◌, ◌≢◌, ◌<◌, ◌≤◌, ℕ, List, Bool, None, true, false, length, replicate, IfOk};
 ghost use Rattle.an_base.specs.Values.{EntryOf};
@@ -9,32 +9,31 @@ ghost use Rattle.table_build.specs.Bests.{IsBetterOf, IsKnown, IsLonger, KnowsFa
 ghost use Rattle.table_build.specs.Links.{AreLinks, AreLinksBelow, link_at};
 
 use crate::link::{Link, Links};
-use an_base::memory::OutOfMemory;
+use common_values::memory::OutOfMemory;
 use std::alloc::Global;
 use std::marker::Model;
 use topo_graph::graph::Graph;
 use updown::order::Height;
 
-/// Of some ways from a member: what a cheapest one costs, and the ports by which cheapest ones
-/// begin.
+/// The lowest cost of some paths from a member, and the first ports of the paths of that cost.
 #[derive(Clone, Copy)]
 pub struct Best {
-    /// What a cheapest one costs.
+    /// The lowest cost.
     pub cost: u8,
-    /// The ports, a bit for each.
+    /// The first ports, a bit for each.
     pub ports: u16,
 }
 
-/// Which ways are sought. Each link costs 1, or nothing if any way will do.
+/// The paths to search for. A link costs 1, or 0 if paths of any length are allowed.
 #[derive(Clone, Copy)]
 pub struct Search {
-    /// The place where they begin.
+    /// The index of the member where they begin.
     pub from: u8,
-    /// Whether any way will do.
+    /// Whether paths of any length are allowed.
     pub any: bool,
     /// Whether they may lead upward.
     pub up: bool,
-    /// Whether they may lead downward, then downward alone.
+    /// Whether they may lead downward; after that they lead only downward.
     pub down: bool,
 }
 
@@ -275,7 +274,7 @@ fn falls_of(
     Ok(bests)
 }
 
-/// The best ways from one member to each place: legal ones, and those that lead downward alone.
+/// The best paths from one member to each member: legal paths, and paths with only downward links.
 #[derive(Drop)]
 pub struct Bests {
     up: Vec<Option<Best>>,
@@ -291,7 +290,12 @@ impl Model for Bests {
 }
 
 impl Bests {
-    /// The best ways from the member at a place.
+    /// Returns the best paths from the member at index `from`.
+    ///
+    /// The caller must pass the `links` and the `order` of `graph`, and an index of a member.
+    ///
+    /// # Errors
+    /// `OutOfMemory` if an allocation fails.
     pub fn from(
         alloc: Global,
         graph: &Graph,
@@ -321,14 +325,14 @@ impl Bests {
         Ok(Bests { up, down })
     }
 
-    /// The best legal ways to a place, if there are any.
+    /// Returns the best legal paths to the member at index `y`, if there are any.
     pub fn up(&self, y: u8) -> Option<Best>
         ensures { result ≡ best_at self.now.up y }
     {
         known_to(&self.up, y)
     }
 
-    /// The best ways to a place that lead downward alone, if there are any.
+    /// Returns the best paths with only downward links to the member at index `y`, if there are any.
     pub fn down(&self, y: u8) -> Option<Best>
         ensures { result ≡ best_at self.now.down y }
     {

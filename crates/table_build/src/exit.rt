@@ -1,4 +1,4 @@
-//! How packets pass a member: the entries by which they may come in, whether they may then go up, and their exits.
+//! How packets pass a member: their ingress ports, whether they may leave upward, and their exits.
 
 ghost use Rattle.std.specs.Prelude.{◌≡◌, ◌↔◌, ◌≤◌, IsTrue};
 ghost use Rattle.table_build.specs.Bests.{HasPort};
@@ -9,8 +9,10 @@ use an_base::row::Exits;
 use topo_graph::graph::Graph;
 use updown::route::is_up_end;
 
-/// Whether what comes in at an entry of the member at a place may go on upward: what starts there,
-/// at entry 0, and what a link brought of which the member is the up end.
+/// Reports whether packets that arrive at port `entry` of the member at index `x` may leave upward.
+///
+/// These are packets that start there, at port 0, and those that arrive over a link whose up end is the
+/// member.
 pub fn may_go_up(graph: &Graph, x: u8, entry: u8) -> bool
     ensures { result ≡ may_go_up graph.now x entry }
 {
@@ -23,7 +25,7 @@ pub fn may_go_up(graph: &Graph, x: u8, entry: u8) -> bool
     }
 }
 
-/// Whether packets may come in at an entry of the member at a place: at 0, or at a port with a link.
+/// Reports whether packets can arrive at port `entry` of the member at index `x`: port 0, or one with a link.
 pub fn is_entry(graph: &Graph, x: u8, entry: u8) -> bool
     ensures test { result ≡ is_entry graph.now x entry }
     ensures meaning { IsTrue result ↔ IsEntry graph.now x entry }
@@ -34,7 +36,7 @@ pub fn is_entry(graph: &Graph, x: u8, entry: u8) -> bool
     graph.far_place(x, entry).is_some()
 }
 
-/// The ports by which best ways begin, rising.
+/// Returns the first ports of best paths, in ascending order.
 pub fn exits(best: Option<Best>) -> Exits
     ensures { ArePortsBelow (IsExitOf best) 13 result }
 {

@@ -1,9 +1,9 @@
-//! The routing tables of a topology: for each entry of a switch and each other member, the ports by
-//! which packets may go on.
+//! autonet, tables: computes the routing table of each switch.
 //!
-//! It stands on an_base, topo_graph and updown. Its contract: a row has the ports that begin a
-//! shortest legal route, or with any routes those that begin a legal route; what came in over a link
-//! whose far end is the up end goes on downward alone.
+//! A table has, for each ingress port of a switch and each other member, the ports by which packets may leave.
+//!
+//! It depends on `topo_graph` and `updown`. Its contract: a row has the ports that begin a shortest legal route (if any
+//! routes are allowed, a legal route of any length); packets that arrived over a downward link leave only downward.
 #![tactic(auto)]
 
 mod best;

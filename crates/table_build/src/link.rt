@@ -1,28 +1,28 @@
-//! The links of each member, parted by which end is up, so that a pass goes over one kind of them alone.
+//! The links of each member, separated by which end is up, so that a pass visits only one kind.
 
 ghost use Rattle.std.specs.Prelude.{◌≡◌, ◌+◌, ◌<◌, [], length, IfOk, OnOk};
 ghost use Rattle.table_build.specs.Links.{AreLinks, AreLinksBelow};
 
-use an_base::memory::OutOfMemory;
+use common_values::memory::OutOfMemory;
 use std::alloc::Global;
 use topo_graph::graph::Graph;
 use updown::route::is_up_end;
 
-/// What a port of a member leads to.
+/// The far side of a port of a member.
 #[derive(Clone, Copy)]
 pub struct Link {
-    /// The place of the far member.
+    /// The index of the far member.
     pub place: u8,
-    /// The port there.
+    /// The far port.
     pub by: u8,
 }
 
 /// The links of a member.
 #[derive(Drop)]
 pub struct Links {
-    /// Those of which it is the up end.
+    /// The links whose up end is the member.
     pub lower: Vec<Link>,
-    /// The others.
+    /// The other links.
     pub upper: Vec<Link>,
 }
 
@@ -70,7 +70,10 @@ fn push_all(links: &mut Vec<Links>, alloc: Global, graph: &Graph) -> Result<(), 
     Ok(())
 }
 
-/// The links of all members, by place.
+/// Returns the links of all members, in order.
+///
+/// # Errors
+/// `OutOfMemory` if an allocation fails.
 pub fn links_of(alloc: Global, graph: &Graph) -> Result<Vec<Links>, OutOfMemory>
     ensures { IfOk result (λ links. AreLinks graph.now (length graph.now) links.items) }
 {

@@ -1,12 +1,12 @@
-//! What all members' tables are made from, so that whoever makes them all works it out once.
+//! The data that the tables of all members share, so that a caller that makes all tables computes it once.
 
 ghost use Rattle.std.specs.Prelude.{◌≡◌, length, IfOk};
 ghost use Rattle.an_base.specs.Numbers.{AreNumbers};
 ghost use Rattle.table_build.specs.Routing.{ArePlaces, IsRouting, place_at};
 
 use crate::link::{Links, links_of};
-use an_base::memory::OutOfMemory;
 use an_base::numbers::Numbers;
+use common_values::memory::OutOfMemory;
 use std::alloc::Global;
 use std::marker::Model;
 use topo_graph::graph::Graph;
@@ -24,7 +24,7 @@ fn places_of(numbers: &[u8]) -> [Option<u8>; 127]
     places
 }
 
-/// What the tables of all members of a topology share: the place of each number, the places from the
+/// The data that the tables of all members share: the index of each number, the members from the
 /// highest to the lowest, and the links of each member.
 #[derive(Drop)]
 pub struct Routing {
@@ -42,7 +42,10 @@ impl Model for Routing {
 }
 
 impl Routing {
-    /// What the tables of a graph share. There is one number for each entry of the graph.
+    /// Computes the shared data of `graph`. The caller must pass one number for each entry of the graph.
+    ///
+    /// # Errors
+    /// `OutOfMemory` if an allocation fails.
     pub fn of(alloc: Global, graph: &Graph, numbers: &Numbers) -> Result<Routing, OutOfMemory>
         requires { length numbers.now ≡ length graph.now }
         ensures { IfOk result (IsRouting graph.now numbers.now) }
@@ -57,21 +60,21 @@ impl Routing {
         })
     }
 
-    /// The place that has a number, if one has it.
+    /// Returns the index of the member with the number `number`, if there is one.
     pub fn place(&self, number: u8) -> Option<u8>
         ensures { result ≡ place_at self.now.places number }
     {
         self.places.get(usize::from(number)).copied().flatten()
     }
 
-    /// The places from the highest to the lowest.
+    /// Returns the members from the highest to the lowest.
     pub fn order(&self) -> &[Height]
         ensures { result.now ≡ self.now.order }
     {
         self.descent.as_slice()
     }
 
-    /// The links of each member, by its place.
+    /// Returns the links of each member, in order.
     pub fn links(&self) -> &[Links]
         ensures { result.now ≡ self.now.links }
     {

@@ -1,4 +1,4 @@
-//! The table of one member. Its rows rise, so a binary search finds exits.
+//! The table of one member. Its rows are in ascending order, so a binary search finds exits.
 
 ghost use Rattle.std.specs.Prelude.{◌≡◌, ◌<◌, ◌≤◌, ◌++◌, [], Any, length, map, IfOk, OnOk};
 ghost use Rattle.an_base.specs.declared.limits.TheConstants.{MOST_NUMBER};
@@ -9,9 +9,9 @@ use crate::exit::{is_entry, may_go_up};
 use crate::routing::Routing;
 use crate::way::{Way, ways_of};
 use an_base::life::Life;
-use an_base::memory::OutOfMemory;
 use an_base::numbers::Numbers;
 use an_base::row::{Exits, Row};
+use common_values::memory::OutOfMemory;
 use std::alloc::Global;
 use std::marker::Model;
 use topo_graph::graph::Graph;
@@ -87,7 +87,7 @@ fn rows_of(
     Ok(rows)
 }
 
-/// The routing table of one member of a topology: its rows by rising entry, then by rising number.
+/// The routing table of one member of a topology: rows in ascending order of ingress port, then of number.
 #[derive(Drop)]
 pub struct Table {
     number: u8,
@@ -107,9 +107,14 @@ impl Model for Table {
 }
 
 impl Table {
-    /// The table of a member of the graph, with one number for each entry of the graph: a row for
-    /// each entry, 0 and the ports with a link, and each number of another member, with the ports
-    /// that begin a shortest legal route there, or if `any` holds a legal route of any length.
+    /// Computes the table of the member `me` of `graph`.
+    ///
+    /// It has a row for each ingress port (0 and the ports with a link) and each number of another
+    /// member, with the ports that begin a shortest legal route there, or, if `any`, a legal route of
+    /// any length. The caller must pass a life of the graph, and one number for each of its entries.
+    ///
+    /// # Errors
+    /// `OutOfMemory` if an allocation fails.
     pub fn build(
         alloc: Global,
         graph: &Graph,
@@ -126,7 +131,13 @@ impl Table {
         Table::of(alloc, graph, numbers, &routing, x, any)
     }
 
-    /// The table of the member at a place, from what the tables of all members share.
+    /// Computes the table of the member at index `x` from the data that all tables share.
+    ///
+    /// The caller must pass the `routing` of `graph` and `numbers`, one number for each entry of the
+    /// graph, and an index of a member.
+    ///
+    /// # Errors
+    /// `OutOfMemory` if an allocation fails.
     pub fn of(
         alloc: Global,
         graph: &Graph,
@@ -146,7 +157,7 @@ impl Table {
         Ok(Table { number, rows })
     }
 
-    /// The number of the member whose table it is, 1 to 126.
+    /// Returns the number, 1 to 126, of the member that the table belongs to.
     pub fn number(&self) -> u8
         ensures number { result ≡ self.now.number }
         ensures least { 1 ≤ self.now.number }
@@ -155,8 +166,9 @@ impl Table {
         self.number
     }
 
-    /// The exits for what comes in at an entry and goes to a number, rising. There are none if
-    /// the table has no such row.
+    /// Returns the exits, in ascending order, for packets to `number` that arrive at `entry`.
+    ///
+    /// There are none if the table has no such row.
     pub fn exits(&self, entry: u8, number: u8) -> Exits
         ensures { result ≡ exits_of self.now entry number }
     {
@@ -172,14 +184,14 @@ impl Table {
         }
     }
 
-    /// The rows by rising entry, then by rising number.
+    /// Returns the rows in ascending order of ingress port, then of number.
     pub fn as_slice(&self) -> &[Row]
         ensures { result.now ≡ self.now.rows }
     {
         &self.rows
     }
 
-    /// The same as a vector, without taking memory.
+    /// Returns the rows as a vector without allocating.
     pub fn into_rows(self) -> Vec<Row>
         ensures { result.items ≡ self.rows }
     {

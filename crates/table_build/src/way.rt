@@ -1,4 +1,4 @@
-//! The exits towards each other member, before they become rows: the entries of a member share them.
+//! The exits towards each other member, before they become rows: the ingress ports of a member share them.
 
 ghost use Rattle.std.specs.Prelude.{◌≡◌, ◌≢◌, ◌<◌, ℕ, [], length, slice_index, IfOk, OnOk, MatchOption};
 ghost use Rattle.an_base.specs.Numbers.{AreNumbers};
@@ -10,22 +10,22 @@ ghost use Rattle.table_build.specs.Tables.{AreWays, IsWay};
 use crate::best::Bests;
 use crate::exit::exits;
 use crate::routing::Routing;
-use an_base::memory::OutOfMemory;
 use an_base::numbers::Numbers;
 use an_base::row::Exits;
+use common_values::memory::OutOfMemory;
 use std::alloc::Global;
 use topo_graph::graph::Graph;
 
-/// The exits towards another member: of what may go on upward, and of what may not.
+/// The exits towards another member: for packets that may leave upward, and for those that may not.
 #[derive(Drop)]
 pub struct Way {
     /// The number of the other member.
     pub number: u8,
-    /// Its place.
+    /// The index of the other member.
     pub place: u8,
-    /// The exits of what may go on upward.
+    /// The exits for packets that may leave upward.
     pub up: Exits,
-    /// The exits of what may not.
+    /// The exits for packets that may not leave upward.
     pub down: Exits,
 }
 
@@ -87,7 +87,13 @@ fn push_ways(
     Ok(())
 }
 
-/// The exits towards all other members, by rising number.
+/// Returns the exits towards all other members, in ascending order of number.
+///
+/// The caller must pass the `routing` of `graph` and `numbers`, one number for each entry of the graph,
+/// and an index of a member.
+///
+/// # Errors
+/// `OutOfMemory` if an allocation fails.
 pub fn ways_of(
     alloc: Global,
     graph: &Graph,

@@ -10,8 +10,8 @@ use Rattle.net_script.specs.declared.cause.ScriptCause.{ScriptCause}
 use Rattle.net_script.specs.declared.cause.ScriptCause.TheVariants.{BadNumber, NameTwice, PortRange, TablesShort}
 use Rattle.table_script.specs.declared.table_draft.NumberAt.{NumberAt}
 use Rattle.table_script.specs.declared.table_draft.EntryAt.{EntryAt}
-use Rattle.text_lines.specs.Words.{is_number, number_value}
-use Rattle.text_lines.specs.Faults.{unless}
+use Rattle.common_lines.specs.Words.{is_number, number_value}
+use Rattle.common_lines.specs.Faults.{unless}
 use Rattle.net_script.specs.Rules.{place, known_cause, number_cause}
 use Rattle.net_script.specs.Scripts.{ScriptOf}
 use Rattle.table_script.specs.Tables.{IsRowOf, AreRowsApart, are_joined}
@@ -19,11 +19,11 @@ use Rattle.row_text.specs.TableForms.{TableForm, ComponentLine, MemberLine, Numb
 use Rattle.table_script.specs.TableDrafts.{TableDraftOf, no_tables}
 use Rattle.table_script.specs.TableRules.{is_pair, are_pairs, rise_above, pair_number, row_of, entry_cause, is_numbered, is_number_taken, is_entered, are_numbered, number_line_cause, row_line_cause, table_cause, with_number, with_rows, with_table_form, AreNumbersApart, IsNumberAt, IsKept}
 use Rattle.net_script.specs.Steps.{ScriptStop}
-use Rattle.text_lines.specs.declared.stop.Stop.TheVariants.{Fault, OutOfMemory}
+use Rattle.common_lines.specs.declared.stop.Stop.TheVariants.{Fault, OutOfMemory}
 use Rattle.table_script.specs.TableTexts.{AddsTableForm}
-use Rattle.text_lines.proofs.FaultLemmas.{no_first, holds}
+use Rattle.common_lines.proofs.FaultLemmas.{no_first, holds}
 use Rattle.net_script.proofs.RangeLemmas.{known_low, in_range}
-use Rattle.text_lines.specs.Stops.{IsStep}
+use Rattle.common_lines.specs.Stops.{IsStep}
 
 -- what no lines say
 pub none_kept : (s : ScriptOf) → length s.switch_names ≡ length s.wires.switches → IsKept s no_tables

@@ -1,8 +1,8 @@
 use Rattle.std.proofs.Common.{◌≡◌, sym, subst, refl, ℕ, List, [], ◌∷◌, inr, Result, Ok, Err, None}
-use Rattle.text_lines.specs.Lines.{words_of}
-use Rattle.text_lines.specs.Grammar.{AddsRowBy, IsFaultyRowBy}
-use Rattle.text_lines.specs.Stops.{IsStep}
-use Rattle.text_lines.specs.declared.stop.Stop.TheVariants.{Fault, OutOfMemory}
+use Rattle.common_lines.specs.Lines.{words_of}
+use Rattle.common_lines.specs.Grammar.{AddsRowBy, IsFaultyRowBy}
+use Rattle.common_lines.specs.Stops.{IsStep}
+use Rattle.common_lines.specs.declared.stop.Stop.TheVariants.{Fault, OutOfMemory}
 use Rattle.net_script.specs.Scripts.{ScriptOf}
 use Rattle.net_script.specs.Steps.{ScriptStop}
 use Rattle.net_script.specs.Texts.{bytes_cause}

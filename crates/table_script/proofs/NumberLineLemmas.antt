@@ -1,6 +1,6 @@
 use Rattle.std.proofs.Common.{◌≡◌, ◌∙◌, ap, refl, ℕ, List, Some, None, true, false}
 use Rattle.net_script.specs.declared.cause.ScriptCause.TheVariants.{NameTwice}
-use Rattle.text_lines.specs.Words.{number_value}
+use Rattle.common_lines.specs.Words.{number_value}
 use Rattle.net_script.specs.Rules.{place, known_cause, number_cause}
 use Rattle.net_script.specs.Scripts.{ScriptOf}
 use Rattle.table_script.specs.TableDrafts.{TableDraftOf}

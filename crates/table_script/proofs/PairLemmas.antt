@@ -6,13 +6,13 @@ use Rattle.std.proofs.lemmas.List.Folds.{list_any_at}
 use Rattle.std.proofs.lemmas.List.Quantifiers.{position-Some}
 use Rattle.net_script.specs.declared.cause.ScriptCause.{ScriptCause}
 use Rattle.net_script.specs.declared.cause.ScriptCause.TheVariants.{BadNumber}
-use Rattle.text_lines.specs.Words.{is_number_in, number_value}
-use Rattle.text_lines.specs.Faults.{unless}
+use Rattle.common_lines.specs.Words.{is_number_in, number_value}
+use Rattle.common_lines.specs.Faults.{unless}
 use Rattle.net_script.specs.Rules.{number_cause}
 use Rattle.table_script.specs.TableRules.{is_colon, port_words, are_ports, is_pair, row_of}
-use Rattle.text_lines.proofs.FaultLemmas.{fails, holds}
+use Rattle.common_lines.proofs.FaultLemmas.{fails, holds}
 use Rattle.table_script.proofs.PartLemmas.{first_place}
-use Rattle.text_lines.proofs.LineLemmas.{before_some}
+use Rattle.common_lines.proofs.LineLemmas.{before_some}
 
 -- ports of which the first is none
 first_bad : (above : ℕ) (word : List ℕ) (more : List (List ℕ)) → is_number_in 1 12 word ≡ false → are_ports above (word ∷ more) ≡ false

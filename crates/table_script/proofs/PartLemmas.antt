@@ -4,7 +4,7 @@ use Rattle.std.proofs.lemmas.Bool.Decides.{nat_tests}
 use Rattle.std.proofs.lemmas.List.{take_rest}
 use Rattle.std.proofs.lemmas.List.Elements.{All-from_get_or}
 use Rattle.std.proofs.lemmas.List.Splits.{slice_split_none, slice_split_first}
-use Rattle.text_lines.proofs.LineLemmas.{position_none}
+use Rattle.common_lines.proofs.LineLemmas.{position_none}
 
 -- the place that a test finds is the first
 pub first_place : (n len i : ℕ) → cond (ltb n len) (Some n) None ≡ Some i → (n ≡ i) × (n < len)

@@ -1,10 +1,10 @@
 use Rattle.std.proofs.Common.{◌≡◌, ◌∙◌, sym, ap, inl, inr, ℕ, List, [], length, true, false}
-use Rattle.text_lines.specs.Lines.{lines_of}
+use Rattle.common_lines.specs.Lines.{lines_of}
 use Rattle.net_script.specs.Scripts.{ScriptOf}
 use Rattle.table_script.specs.Tables.{TablesOf}
 use Rattle.table_script.specs.TableRules.{tables_of}
 use Rattle.table_script.specs.TableTexts.{Told, AddsTold, none_told, AreEnded, IsTextWith}
-use Rattle.text_lines.specs.Chains.{LeadsBy}
+use Rattle.common_lines.specs.Chains.{LeadsBy}
 use Rattle.net_script.specs.declared.draft.Part.TheVariants.{After}
 use Rattle.table_script.specs.declared.table_reader.Reading.{Reading}
 use Rattle.table_script.specs.TableDrafts.{TableDraftOf}

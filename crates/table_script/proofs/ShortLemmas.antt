@@ -3,8 +3,8 @@ use Rattle.std.proofs.Common.{◌≡◌, refl, ℕ, ◌+◌, ◌*◌, ◌<◌, �
 use Rattle.std.specs.Char.{digit_value, is_ascii_digit}
 use Rattle.std.proofs.lemmas.Bool.{or_right}
 use Rattle.std.proofs.lemmas.Bool.Decides.{nat_tests}
-use Rattle.text_lines.specs.Words.{is_number, number_value}
-use Rattle.text_lines.proofs.WordLemmas.{digit_says}
+use Rattle.common_lines.specs.Words.{is_number, number_value}
+use Rattle.common_lines.proofs.WordLemmas.{digit_says}
 
 said : (byte d : ℕ) → d + 48 ≡ byte → d < 10 → digit_value byte ≡ d
 said byte d is low = let s = digit_says byte (omega arith) (omega arith) in omega arith

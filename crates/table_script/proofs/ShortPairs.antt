@@ -1,7 +1,7 @@
 use Rattle.std.proofs.Common.{◌≡◌, refl, ℕ, ◌+◌, ◌<◌, [], ◌∷◌, map, true, false, eqb, leb, arith}
 use Rattle.std.specs.Char.{is_ascii_digit}
 use Rattle.std.proofs.lemmas.Bool.Decides.{nat_tests}
-use Rattle.text_lines.specs.Words.{number_value}
+use Rattle.common_lines.specs.Words.{number_value}
 use Rattle.table_script.specs.TableRules.{are_ports, port_words}
 use Rattle.table_script.proofs.ShortLemmas.{one_digit}
 

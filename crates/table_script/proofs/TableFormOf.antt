@@ -8,12 +8,12 @@ use Rattle.row_text.specs.TableForms.{TableForm, ComponentLine, MemberLine, Numb
 use Rattle.table_script.specs.TableDrafts.{TableDraftOf}
 use Rattle.table_script.specs.TableTexts.{AddsTableForm, IsFaultyTableForm}
 use Rattle.table_script.specs.TableSteps.{ReadsTable, IsWrongTable}
-use Rattle.text_lines.specs.Grammar.{HasNoFormBy}
-use Rattle.text_lines.specs.Stops.{IsStep}
-use Rattle.text_lines.proofs.StopLemmas.{form_step_by}
+use Rattle.common_lines.specs.Grammar.{HasNoFormBy}
+use Rattle.common_lines.specs.Stops.{IsStep}
+use Rattle.common_lines.proofs.StopLemmas.{form_step_by}
 use Rattle.net_script.specs.Steps.{ScriptStop}
 use Rattle.table_script.specs.TableRules.{table_cause, with_table_form}
-use Rattle.text_lines.proofs.ChoiceLemmas.{word_is, branch}
+use Rattle.common_lines.proofs.ChoiceLemmas.{word_is, branch}
 
 -- the form of the words after each first word
 abbrev pub number_form : List (List ℕ) → Option TableForm

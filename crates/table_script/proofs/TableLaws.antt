@@ -4,7 +4,7 @@ use Rattle.net_script.specs.declared.cause.ScriptCause.TheVariants.{UnknownWord,
 use Rattle.net_script.specs.declared.draft.Draft.{Draft}
 use Rattle.net_script.specs.declared.draft.Part.{Part}
 use Rattle.net_script.specs.declared.draft.Part.TheVariants.{Header, Items, After}
-use Rattle.text_lines.specs.Lines.{lines_of}
+use Rattle.common_lines.specs.Lines.{lines_of}
 use Rattle.net_script.specs.Scripts.{ScriptOf}
 use Rattle.net_script.specs.Texts.{bytes_cause}
 use Rattle.table_script.specs.Tables.{TablesOf}
@@ -12,9 +12,9 @@ use Rattle.row_text.specs.TableForms.{table_words}
 use Rattle.table_script.specs.TableDrafts.{TableDraftOf}
 use Rattle.table_script.specs.TableRules.{table_cause, with_table_form, tables_of}
 use Rattle.table_script.specs.TableTexts.{AddsTableWords, AddsTable, IsFaultyTableWords, IsFaultyTable, Told, none_told, AddsToldIn, AddsTold, IsFaultyToldIn, IsFaultyTold, AreEnded, IsTextWith, IsFaultWith}
-use Rattle.text_lines.specs.Grammar.{AddsRowBy}
-use Rattle.text_lines.proofs.GrammarLaws.{form_once, form_not_both, form_one_cause, either_form, line_once, line_not_both, line_one_cause, either_line}
-use Rattle.text_lines.proofs.ChainLaws.{LeadsBy-once, no_fault_of, one_fault_of, end_or_fault}
+use Rattle.common_lines.specs.Grammar.{AddsRowBy}
+use Rattle.common_lines.proofs.GrammarLaws.{form_once, form_not_both, form_one_cause, either_form, line_once, line_not_both, line_one_cause, either_line}
+use Rattle.common_lines.proofs.ChainLaws.{LeadsBy-once, no_fault_of, one_fault_of, end_or_fault}
 use Rattle.net_script.proofs.TextLemmas.{Adds-once, not_both, one_cause, either}
 use Rattle.table_script.proofs.TableFormOf.{one_table_form, table_form_of, table_form_is, no_table_form}
 

@@ -2,7 +2,7 @@ use Rattle.std.proofs.Common.{◌≡◌, ◌∙◌, sym, ap, refl, ℕ, ◌+◌,
 use Rattle.std.specs.Prelude.{filter}
 use Rattle.std.proofs.lemmas.Bool.Decides.{nat_tests}
 use Rattle.std.specs.List.{position, position_or_len, slice_split}
-use Rattle.text_lines.specs.Lines.{is_blank, parts_of}
+use Rattle.common_lines.specs.Lines.{is_blank, parts_of}
 use Rattle.table_script.proofs.PartLemmas.{first_place, split_at, split_none}
 
 -- the parts that are not empty

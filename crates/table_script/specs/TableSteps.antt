@@ -3,7 +3,7 @@ use Rattle.std.specs.Str.{bytes_eq}
 use Rattle.net_script.specs.declared.cause.ScriptCause.{ScriptCause}
 use Rattle.net_script.specs.declared.draft.Part.TheVariants.{After}
 use Rattle.table_script.specs.declared.table_reader.Reading.{Reading}
-use Rattle.text_lines.specs.Stops.{IsRefusalBy, ReadsFormBy}
+use Rattle.common_lines.specs.Stops.{IsRefusalBy, ReadsFormBy}
 use Rattle.net_script.specs.Steps.{ReadRefusal}
 use Rattle.net_script.specs.Scripts.{ScriptOf}
 use Rattle.table_script.specs.Tables.{AreLabels}
@@ -14,25 +14,25 @@ use Rattle.table_script.specs.TableTexts.{Told, IsFaultWith}
 
 -- The steps of the reader.
 
--- nothing is wrong with a line of this form after a draft, and it leads to the draft with what it adds
+-- a line of this form after `draft` is accepted, and leads to the draft with its content added
 abbrev pub ReadsTable : ScriptOf → TableDraftOf → TableForm → TableDraftOf → Type 0
 ReadsTable script = ReadsFormBy (table_cause script) (with_table_form script)
 
--- this is wrong with a line of this form after a draft
+-- a line of this form after `draft` is rejected for reason `cause`
 abbrev pub IsWrongTable : ScriptOf → TableDraftOf → TableForm → ScriptCause → Type 0
 IsWrongTable script draft form cause = table_cause script draft form ≡ Some cause
 
--- the first of the words is not `row`
+-- the first of the words, if there is one, is not `row`
 abbrev pub IsNoRow : List (List ℕ) → Type 0
 IsNoRow [] = ⊤
 IsNoRow (word ∷ words) = bytes_eq word (codes "row") ≡ false
 
--- what the lines so far say
+-- the content of the lines read so far
 abbrev pub told_of : Reading → Told
 told_of reading = record { script = reading.script; tables = reading.tables }
 
--- no line of tables came before the script's `end`; from then on the labels are those of the components,
--- and the lines of tables keep what they must
+-- no line of tables came before the script's `end`; after it the labels are those of the components, and the
+-- lines of tables keep their invariant
 pub record IsReady (reading : Reading) : Type 0 where
   pub unbegun : reading.script.part ≢ After → reading.tables ≡ no_tables
   pub labels :
@@ -41,6 +41,6 @@ pub record IsReady (reading : Reading) : Type 0 where
       reading.labels.items
   pub kept : reading.script.part ≡ After → IsKept reading.script.script reading.tables
 
--- the refusal says the first fault of the bytes, or that no memory was found
+-- the refusal gives the first error of `bytes`, or is `OutOfMemory`
 abbrev pub IsRefusalWith : List ℕ → ReadRefusal → Type 0
 IsRefusalWith bytes = IsRefusalBy (IsFaultWith bytes)

@@ -1,27 +1,32 @@
-//! The components of links.
+//! The components that links form.
 
 ghost use Rattle.std.specs.Prelude.{◌≡◌, ◌==◌, ◌<◌, All, length, map, IfOk, if◌then◌else◌};
 ghost use Rattle.std.specs.List.{range_with_len};
 ghost use Rattle.net_graph.specs.Wires.{IsLink};
 ghost use Rattle.table_script.specs.Tables.{AreLabels};
 
-use an_base::memory::OutOfMemory;
+use common_values::memory::OutOfMemory;
 use net_graph::wiring::LinkAt;
 use net_script::script::Script;
 use std::alloc::Global;
 
-/// The network that tables are of: its script, and the labels of its components.
+/// The network that tables belong to: its script, and the labels of its components.
 #[derive(Clone, Copy, Drop)]
 pub struct Network<'a> {
     /// The script.
     pub script: &'a Script,
-    /// A label for each switch, by place.
+    /// A label for each switch, by index.
     pub labels: &'a [u8],
     ghost fit: { AreLabels (length script.now.wires.switches) script.now.wires.links labels.now },
 }
 
-/// Labels of so many switches, by place, which are alike exactly for the switches of one component of the
-/// links. It looks once at each link, and at each label once for each link that joins two components.
+/// Returns labels of `count` switches, by index: two are equal if and only if `links` join their switches.
+///
+/// It reads each link once, and each label once for each link that joins two components. Each link
+/// must be one of a network of `count` switches.
+///
+/// # Errors
+/// `OutOfMemory` if an allocation fails.
 pub fn labels_of(alloc: Global, count: u8, links: &[LinkAt]) -> Result<Vec<u8>, OutOfMemory>
     requires { All (IsLink count) links.now }
     ensures { IfOk result (λ labels. AreLabels count links.now labels.items) }
@@ -40,7 +45,7 @@ pub fn labels_of(alloc: Global, count: u8, links: &[LinkAt]) -> Result<Vec<u8>, 
     }
 }
 
-// The places of so many switches.
+// The indices of `count` switches.
 fn places(alloc: Global, count: u8) -> Result<Vec<u8>, OutOfMemory>
     ensures { IfOk result (λ places. places.items ≡ range_with_len 0 count) }
 {
@@ -51,7 +56,7 @@ fn places(alloc: Global, count: u8) -> Result<Vec<u8>, OutOfMemory>
     Ok(places)
 }
 
-// The labels, with one for another.
+// The labels, with `from` replaced by `to`.
 fn relabelled(alloc: Global, labels: &[u8], from: u8, to: u8) -> Result<Vec<u8>, OutOfMemory>
     ensures { IfOk result (λ v. v.items ≡ map (λ l. (if l == from then to else l)) labels.now) }
 {

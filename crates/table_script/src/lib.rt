@@ -1,10 +1,12 @@
-//! Scripts with tables: a script, and after it lines that give the numbers of its switches and the rows
+//! autonet, table texts: reader of a script followed by tables.
+//!
+//! The text is a script and, after it, lines that give the numbers (short addresses) of its switches and the rows
 //! of their routing tables.
 //!
-//! It stands on `an_base`, `net_graph`, `text_lines` and `net_script`. Its contract:
-//! `table_reader::read_with_tables` answers a script and tables only if the bytes are the text of such, and else
-//! the first faulty line with its first cause; want of memory may come in place of either. No bytes are the text
-//! of two.
+//! It depends on the reader of scripts, and on the forms of lines in `row_text`. Its contract:
+//! `table_reader::read_with_tables` returns a script and tables only if the bytes are the text of them, and
+//! otherwise the first faulty line with its first reason; instead of either it can run out of memory. No bytes are
+//! the text of two scripts with tables.
 #![tactic(auto)]
 
 mod component;

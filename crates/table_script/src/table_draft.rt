@@ -1,13 +1,13 @@
-//! What the lines of tables say so far.
+//! The content of the lines of tables that were read so far.
 
 ghost use Rattle.std.specs.Prelude.{◌≡◌, ◌<◌, ◌++◌, [], ◌∷◌, true, false, All, length, OnOk};
 ghost use Rattle.table_script.specs.TableDrafts.{height_of, no_tables};
 ghost use Rattle.table_script.specs.TableRules.{is_numbered, is_labelled, is_entered, number_of};
 
-use an_base::memory::OutOfMemory;
 use an_base::place::Place;
 use an_base::port::Port;
 use an_base::row::Row;
+use common_values::memory::OutOfMemory;
 use std::alloc::Global;
 use std::marker::Model;
 
@@ -20,7 +20,7 @@ pub struct NumberAt {
     pub number: u8,
 }
 
-/// An entry of a switch.
+/// An entry of a switch: an ingress port, or 0 for packets that start there.
 #[derive(Clone, Copy, PartialEq, Eq)]
 pub struct EntryAt {
     /// The switch.
@@ -29,7 +29,7 @@ pub struct EntryAt {
     pub entry: Port,
 }
 
-/// What so many lines of tables say.
+/// The content of the lines of tables that were read so far.
 #[derive(Drop)]
 pub struct TableDraft {
     numbers: Vec<NumberAt>,
@@ -40,7 +40,7 @@ pub struct TableDraft {
     ended: bool,
 }
 
-// Where an entry of a switch stands among all, by rising switch and then by rising entry.
+// The height of an entry of a switch: entries are ordered by switch, then by entry.
 fn height_of(at: &EntryAt) -> u32
     ensures height { result ≡ height_of at.now }
     ensures low { result < 65536 }
@@ -64,7 +64,7 @@ impl Model for TableDraft {
 }
 
 impl TableDraft {
-    /// What no lines say.
+    /// Creates the draft of no lines.
     pub fn new(alloc: Global) -> Self
         ensures { result ≡ no_tables }
     {
@@ -77,14 +77,14 @@ impl TableDraft {
         }
     }
 
-    /// Whether the last line came.
+    /// Reports whether the last line was read.
     pub fn is_ended(&self) -> bool
         ensures { result ≡ self.now.ended }
     {
         self.ended
     }
 
-    /// Whether a switch had its number.
+    /// Reports whether a line gave switch `s` its number.
     #[tactic(auto, unfolding(crate::specs::TableRules::is_numbered))]
     pub fn is_numbered(&self, s: Place) -> bool
         ensures { result ≡ is_numbered self.now s }
@@ -92,7 +92,9 @@ impl TableDraft {
         self.numbers.iter().any(|x| x.s == s)
     }
 
-    /// Whether a switch whose label is that of s has the number.
+    /// Reports whether a switch with the label of `s` has `number`.
+    ///
+    /// The caller must pass a label for `s` and for each numbered switch.
     #[tactic(auto, unfolding(crate::specs::TableRules::is_labelled))]
     pub fn is_number_taken(&self, labels: &[u8], s: Place, number: u8) -> bool
         requires all { All (λ x. x.s < length labels.now) self.now.numbers }
@@ -103,7 +105,7 @@ impl TableDraft {
         self.numbers.iter().any(|x| x.number == number && labels[usize::from(x.s)] == label)
     }
 
-    // Whether an entry of a switch stands above all that had their lines.
+    // Reports whether an entry of a switch lies above all that had their lines.
     fn is_next(&self, s: Place, entry: Port) -> bool
         ensures { result ≡ true → is_entered self.now s entry ≡ false }
     {
@@ -114,8 +116,9 @@ impl TableDraft {
         true
     }
 
-    /// Whether an entry of a switch had its line. If the lines come by rising switch and entry it looks
-    /// at none of them.
+    /// Reports whether `entry` of switch `s` had its line.
+    ///
+    /// If the lines come in ascending order of switch and entry, no earlier line is searched.
     #[tactic(auto, unfolding(crate::specs::TableRules::is_entered))]
     pub fn is_entered(&self, s: Place, entry: Port) -> bool
         ensures { result ≡ is_entered self.now s entry }
@@ -126,7 +129,7 @@ impl TableDraft {
         self.entries.iter().any(|x| x.s == s && x.entry == entry)
     }
 
-    /// The number of a switch, 0 if it had no line.
+    /// Returns the number of switch `s`, 0 if no line gave one.
     #[tactic(auto, unfolding(crate::specs::TableRules::number_of))]
     pub fn number_of(&self, s: Place) -> u8
         ensures { result ≡ number_of self.now s }
@@ -137,7 +140,10 @@ impl TableDraft {
             .map_or(0, |x| x.number)
     }
 
-    /// Adds the number of a switch. If no memory is found nothing is added.
+    /// Adds the number of a switch.
+    ///
+    /// # Errors
+    /// `OutOfMemory` if the allocation fails; the draft is then unspecified.
     pub fn push_number(&mut self, number: NumberAt) -> Result<(), OutOfMemory>
         ensures { OnOk result (self.new ≡ record self.old { numbers = self.old.numbers ++ number ∷ [] }) }
     {
@@ -145,7 +151,10 @@ impl TableDraft {
         Ok(())
     }
 
-    /// Adds an entry of a switch. If no memory is found nothing is added.
+    /// Adds an entry of a switch.
+    ///
+    /// # Errors
+    /// `OutOfMemory` if the allocation fails; the draft is then unspecified.
     pub fn push_entry(&mut self, entry: EntryAt) -> Result<(), OutOfMemory>
         ensures { OnOk result (self.new ≡ record self.old { entries = self.old.entries ++ entry ∷ [] }) }
     {
@@ -157,7 +166,10 @@ impl TableDraft {
         Ok(())
     }
 
-    /// Adds a row. If no memory is found nothing is added.
+    /// Adds a row.
+    ///
+    /// # Errors
+    /// `OutOfMemory` if the allocation fails; the draft is then unspecified.
     pub fn push_row(&mut self, row: Row) -> Result<(), OutOfMemory>
         ensures { OnOk result (self.new ≡ record self.old { rows = self.old.rows ++ row ∷ [] }) }
     {
@@ -165,14 +177,14 @@ impl TableDraft {
         Ok(())
     }
 
-    /// Ends the tables.
+    /// Marks the tables as ended.
     pub fn end(&mut self)
         ensures { self.new ≡ record self.old { ended = true } }
     {
         self.ended = true;
     }
 
-    /// The rows, without taking memory.
+    /// Returns the rows, without allocating.
     pub fn into_rows(self) -> Vec<Row>
         ensures { result.items ≡ self.rows }
     {

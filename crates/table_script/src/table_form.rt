@@ -1,4 +1,4 @@
-//! The forms of lines of tables: what the words of a line add to what stands before it.
+//! Reads the fields of a line of tables, and adds them to a draft.
 
 ghost use Rattle.std.specs.Prelude.{◌≡◌, ◌+◌, ◌≤◌, ◌<◌, ◌==◌, ◌++◌, [], ◌∷◌, true, false, map, length, codes, position, All, IfOk, IfSome, MatchResult, MatchOption};
 ghost use Rattle.std.specs.Char.{is_ascii_digit};
@@ -6,15 +6,15 @@ ghost use Rattle.std.specs.List.{slice_split, list_all, range_with_len};
 ghost use Rattle.std.specs.Str.{bytes_eq};
 ghost use Rattle.net_script.specs.declared.cause.ScriptCause.TheVariants.{BadNumber};
 ghost use Rattle.net_script.specs.Rules.{number_cause};
-ghost use Rattle.text_lines.specs.Words.{is_number, number_value};
-ghost use Rattle.text_lines.specs.Faults.{unless};
-ghost use Rattle.text_lines.specs.Lines.{parts_of};
+ghost use Rattle.common_lines.specs.Words.{is_number, number_value};
+ghost use Rattle.common_lines.specs.Faults.{unless};
+ghost use Rattle.common_lines.specs.Lines.{parts_of};
 ghost use Rattle.row_text.specs.TableForms.{NumberLine, RowLine, EndLine};
 ghost use Rattle.table_script.specs.TableRules.{are_ports, port_words, is_colon, is_pair, are_pairs, row_of, entry_cause, is_numbered, IsKept};
 ghost use Rattle.table_script.specs.TableTexts.{AddsTableForm, IsFaultyTableForm};
 ghost use Rattle.table_script.specs.TableSteps.{IsNoRow, ReadsTable, IsWrongTable};
-ghost use Rattle.text_lines.specs.Faults.{IsField};
-ghost use Rattle.text_lines.specs.Stops.{IsStep};
+ghost use Rattle.common_lines.specs.Faults.{IsField};
+ghost use Rattle.common_lines.specs.Stops.{IsStep};
 
 use crate::component::Network;
 use crate::table_draft::{EntryAt, NumberAt, TableDraft};
@@ -22,15 +22,20 @@ use crate::table_words::next_word;
 use an_base::place::Place;
 use an_base::port::Port;
 use an_base::row::{Exits, Row};
+use common_lines::line::first_of;
+use common_lines::stop::Stop;
+use common_lines::word::{is, is_number, number_of};
 use net_script::cause::ScriptCause;
 use net_script::field::{known_switch, number_in};
 use net_script::form::ScriptStop;
 use net_script::script::Script;
-use text_lines::line::first_of;
-use text_lines::stop::Stop;
-use text_lines::word::{is, is_number, number_of};
 
-/// Adds what a line of tables of these words says, of which the first is not `row`.
+/// Reads a line of tables that has these `words`, and adds it to `draft`.
+///
+/// The first of the words must not be `row`, and `draft` must come from lines after this script.
+///
+/// # Errors
+/// The first reason for which the line is faulty, or `OutOfMemory`.
 pub fn read_table_form(
     draft: &mut TableDraft,
     network: &Network,
@@ -113,7 +118,10 @@ fn read_number_line(
     Ok(())
 }
 
-/// Adds what a line of tables of the word `row` and of the words of a text says.
+/// Reads a line of tables that has the word `row` and then the words of `text`, and adds it to `draft`.
+///
+/// # Errors
+/// The first reason for which the line is faulty, or `OutOfMemory`.
 pub fn read_row_words(
     draft: &mut TableDraft,
     script: &Script,
@@ -152,7 +160,7 @@ fn read_row_line(
     push_rows(draft, s, entry, pairs)
 }
 
-// The entry that a word says.
+// The entry that a word gives.
 fn entry_in(word: &[u8]) -> Result<Port, ScriptCause>
     ensures entry { IsField result (entry_cause word.now) (number_value word.now) }
     ensures range { IfOk result (λ e. e ≤ 12) }
@@ -166,7 +174,7 @@ fn entry_in(word: &[u8]) -> Result<Port, ScriptCause>
     }
 }
 
-// Adds the rows of pairs whose numbers rise, the words of a text.
+// Adds the rows of the pairs in `pairs`, whose numbers must ascend.
 fn push_rows(draft: &mut TableDraft, s: Place, entry: Port, pairs: &[u8]) -> Result<(), ScriptStop>
     ensures { IsStep result
         ((are_pairs 0 (parts_of pairs.now) ≡ true)
@@ -188,7 +196,7 @@ fn push_rows(draft: &mut TableDraft, s: Place, entry: Port, pairs: &[u8]) -> Res
     Ok(())
 }
 
-// The row that a pair says.
+// The row that a pair gives.
 #[tactic(auto, unfolding(crate::specs::TableRules::is_pair))]
 fn row_in(s: Place, entry: Port, pair: &[u8]) -> Result<Row, ScriptCause>
     ensures { IsField result (unless (is_pair pair.now) BadNumber) (row_of s entry pair.now) }
@@ -206,7 +214,7 @@ fn row_in(s: Place, entry: Port, pair: &[u8]) -> Result<Row, ScriptCause>
     })
 }
 
-// Where the first colon stands. In most pairs it is after one to three digits.
+// The position of the first colon. In most pairs it is after one to three digits.
 fn colon_of(pair: &[u8]) -> Option<usize>
     ensures { result ≡ position is_colon pair.now }
 {
@@ -218,7 +226,7 @@ fn colon_of(pair: &[u8]) -> Option<usize>
     }
 }
 
-// The number from 1 to a most that a word says.
+// The number from 1 to `most` that a word gives.
 #[inline]
 fn short_number(word: &[u8], most: u8) -> Result<u8, ScriptCause>
     ensures number { IsField result (number_cause 1 most word.now) (number_value word.now) }
@@ -231,7 +239,7 @@ fn short_number(word: &[u8], most: u8) -> Result<u8, ScriptCause>
     }
 }
 
-// The same, whatever the word is.
+// The number from 1 to `most` that a word of any length gives.
 #[cold]
 #[inline(never)]
 fn long_number(word: &[u8], most: u8) -> Result<u8, ScriptCause>
@@ -242,7 +250,7 @@ fn long_number(word: &[u8], most: u8) -> Result<u8, ScriptCause>
     Ok(number as u8)
 }
 
-// What a number of up to three digits says: it looks once at each. It tells no other number.
+// The value of a number of up to three digits, reading each once; `None` for other words.
 fn short_value(word: &[u8]) -> Option<u16>
     ensures { IfSome result (λ n. (is_number word.now ≡ true) × (n ≡ number_value word.now)) }
 {
@@ -256,7 +264,7 @@ fn short_value(word: &[u8]) -> Option<u16>
     }
 }
 
-// What a digit says.
+// The value of a digit.
 fn digit(byte: u8) -> Option<u16>
     ensures { IfSome result (λ d. (is_ascii_digit byte ≡ true) × (d + 48 ≡ byte) × (d < 10)) }
 {
@@ -267,7 +275,7 @@ fn digit(byte: u8) -> Option<u16>
     }
 }
 
-// What a digit says, if it is none of 0.
+// The value of a digit other than 0.
 fn first_digit(byte: u8) -> Option<u16>
     ensures { IfSome result (λ d. (is_ascii_digit byte ≡ true) × (d + 48 ≡ byte) × (d < 10) × (0 < d)) }
 {
@@ -277,7 +285,7 @@ fn first_digit(byte: u8) -> Option<u16>
     }
 }
 
-// Whether a text is a dash.
+// Reports whether a text is a dash.
 fn is_dash(text: &[u8]) -> bool
     ensures { result ≡ bytes_eq text.now (codes "-") }
 {
@@ -287,7 +295,7 @@ fn is_dash(text: &[u8]) -> bool
     }
 }
 
-// The exits that a text says: none for `-`, else ports between slashes that rise.
+// The exits that a text gives: none for `-`, otherwise ascending ports between slashes.
 fn exits_in(text: &[u8]) -> Result<Exits, ScriptCause>
     ensures { IsField result (unless (are_ports 0 (port_words text.now)) BadNumber)
         (map number_value (port_words text.now)) }
@@ -303,7 +311,7 @@ fn exits_in(text: &[u8]) -> Result<Exits, ScriptCause>
     Ok(exits)
 }
 
-// The exits that a text of one digit says. It tells no others.
+// The exits that a text of one digit gives; `None` for other texts.
 fn short_exits(text: &[u8]) -> Option<Exits>
     ensures { IfSome result (λ exits. (are_ports 0 (port_words text.now) ≡ true)
         × (exits ≡ map number_value (port_words text.now))) }
@@ -314,7 +322,7 @@ fn short_exits(text: &[u8]) -> Option<Exits>
     }
 }
 
-// The exit that a digit says, if it is none of 0.
+// The exit that a digit other than 0 gives.
 fn one_exit(c: u8) -> Option<Exits>
     ensures { IfSome result (λ exits. (are_ports 0 (port_words (c ∷ [])) ≡ true)
         × (exits ≡ map number_value (port_words (c ∷ [])))) }
@@ -325,7 +333,7 @@ fn one_exit(c: u8) -> Option<Exits>
     Some(exits)
 }
 
-// Adds ports that rise, the first above one number.
+// Adds ports that ascend, the first above `above`.
 fn push_ports(exits: &mut Exits, above: u8, text: &[u8]) -> Result<(), ScriptCause>
     requires before { All (λ p. p ≤ above) exits.old }
     requires room { length exits.old ≤ above }
@@ -347,7 +355,7 @@ fn push_ports(exits: &mut Exits, above: u8, text: &[u8]) -> Result<(), ScriptCau
     }
 }
 
-// What stands before the first slash, and what stands after it, if there is one.
+// The text before the first slash, and the text after it, if there is one.
 fn first_part(text: &[u8]) -> (&[u8], Option<&[u8]>)
     ensures parts { MatchOption result.1 (slice_split (λ c. c == 47) text.now ≡ result.0.now ∷ [])
         (λ rest. slice_split (λ c. c == 47) text.now ≡ result.0.now ∷ slice_split (λ c. c == 47) rest.now) }
@@ -371,7 +379,7 @@ fn read_table_end(draft: &mut TableDraft, script: &Script) -> Result<(), ScriptS
     Ok(())
 }
 
-// Whether each of so many switches had its number.
+// Reports whether each of `count` switches had its number.
 fn are_numbered(draft: &TableDraft, count: u8) -> bool
     ensures { result ≡ list_all (is_numbered draft.now) (range_with_len 0 count) }
 {

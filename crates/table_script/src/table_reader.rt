@@ -5,12 +5,12 @@ ghost use Rattle.std.specs.List.{range_with_len};
 ghost use Rattle.net_script.specs.declared.draft.Part.TheVariants.{After};
 ghost use Rattle.table_script.specs.Tables.{AreTablesOf};
 ghost use Rattle.table_script.specs.TableRules.{IsKept, number_of, tables_of};
-ghost use Rattle.text_lines.specs.Chains.{LeadsBy};
-ghost use Rattle.text_lines.specs.Lines.{lines_of, parts_of, words_of};
+ghost use Rattle.common_lines.specs.Chains.{LeadsBy};
+ghost use Rattle.common_lines.specs.Lines.{lines_of, parts_of, words_of};
 ghost use Rattle.table_script.specs.TableTexts.{AddsTable, IsFaultyTable, AddsTableWords, IsFaultyTableWords};
 ghost use Rattle.table_script.specs.TableTexts.{AddsTold, IsFaultyTold, AreEnded, IsTextWith, none_told};
 ghost use Rattle.net_script.specs.Texts.{Adds, IsFaulty};
-ghost use Rattle.text_lines.specs.Stops.{IsStep};
+ghost use Rattle.common_lines.specs.Stops.{IsStep};
 ghost use Rattle.table_script.specs.TableSteps.{told_of, IsReady, IsRefusalWith};
 
 use crate::component::{Network, labels_of};
@@ -18,22 +18,22 @@ use crate::table_draft::TableDraft;
 use crate::table_form::{read_row_words, read_table_form};
 use crate::table_words::{before_comment, next_word};
 use crate::tables::Tables;
-use an_base::memory::OutOfMemory;
 use an_base::place::Place;
+use common_lines::line::{are_line_bytes, first_line, words};
+use common_lines::stop::{Refusal, Stop};
+use common_lines::word::is;
+use common_values::memory::OutOfMemory;
 use net_script::cause::ScriptCause;
 use net_script::draft::{Draft, Part};
 use net_script::form::ScriptStop;
 use net_script::reader::{ReadRefusal, read_line};
 use net_script::script::Script;
 use std::alloc::Global;
-use text_lines::line::{are_line_bytes, first_line, words};
-use text_lines::stop::{Refusal, Stop};
-use text_lines::word::is;
 
-/// The most bytes of a line of tables, without what ends it.
+/// The largest length of a line of tables in bytes, without the bytes that end the line.
 pub const MOST_TABLE_LINE: usize = 4_000;
 
-// What so many lines of a script and of tables say, and from the script's `end` on the labels of the
+// The content of the lines of a script and of tables read so far and, after the script's `end`, the labels of the
 // components.
 #[derive(Drop)]
 struct Reading {
@@ -42,10 +42,13 @@ struct Reading {
     labels: Vec<u8>,
 }
 
-/// The script and the tables that the bytes are the text of: a script, lines of tables, and a second
-/// `end`. As the code is written, and by no clause, the time is linear in the bytes but for the look-ups of
-/// names, identifiers, numbers and entries.
-/// `OutOfMemory` says nothing of the bytes.
+/// Reads a script, lines of tables, and a second `end` from `bytes`, fewer than 2^32 - 1 of them.
+///
+/// By design, but not proved, the time is linear in the bytes, apart from looking up names,
+/// identifiers, numbers and entries.
+///
+/// # Errors
+/// The first faulty line with its first reason; or `OutOfMemory`, which says nothing about the bytes.
 pub fn read_with_tables(alloc: Global, bytes: &[u8]) -> Result<(Script, Tables), ReadRefusal>
     requires few { length bytes.now < 2 ^ 32 - 1 }
     ensures text { IfOk result (λ r. IsTextWith bytes.now r.0 r.1) }
@@ -63,7 +66,7 @@ pub fn read_with_tables(alloc: Global, bytes: &[u8]) -> Result<(Script, Tables),
     Ok(finished(reading, numbers))
 }
 
-// Adds what all lines of a text say to what no lines say.
+// Reads all lines of a text into a reading of no lines.
 fn read_all(reading: &mut Reading, alloc: Global, bytes: &[u8]) -> Result<(), ReadRefusal>
     requires few { length bytes.now < 2 ^ 32 - 1 }
     requires none { told_of reading.old ≡ none_told }
@@ -91,7 +94,7 @@ fn read_all(reading: &mut Reading, alloc: Global, bytes: &[u8]) -> Result<(), Re
     Ok(())
 }
 
-// Adds what a line says.
+// Reads a line of the script or of tables, and adds it.
 fn read_told(reading: &mut Reading, alloc: Global, line: &[u8]) -> Result<(), ScriptStop>
     requires { IsReady reading.old }
     ensures step { IsStep result (AddsTold (told_of reading.old) line.now (told_of reading.new))
@@ -111,7 +114,7 @@ fn read_told(reading: &mut Reading, alloc: Global, line: &[u8]) -> Result<(), Sc
     }
 }
 
-// Adds what a line of the script says.
+// Reads a line of the script, and adds it.
 fn read_script_line(reading: &mut Reading, alloc: Global, line: &[u8]) -> Result<(), ScriptStop>
     requires ready { IsReady reading.old }
     requires before { reading.old.script.part ≢ After }
@@ -127,7 +130,7 @@ fn read_script_line(reading: &mut Reading, alloc: Global, line: &[u8]) -> Result
     Ok(())
 }
 
-// Adds what a line of tables says.
+// Reads a line of tables, and adds it.
 fn read_table_line(
     draft: &mut TableDraft,
     alloc: Global,
@@ -150,7 +153,7 @@ fn read_table_line(
     }
 }
 
-// Adds what the words of a line of tables say: one, and those of the rest.
+// Reads the words of a line of tables, the first and those of the rest, and adds them.
 fn read_table_words(
     draft: &mut TableDraft,
     alloc: Global,
@@ -176,7 +179,7 @@ fn read_table_words(
     read_table_form(draft, network, &words)
 }
 
-// The script and the tables that the lines say, if the switches have these numbers.
+// The script and the tables that were read, if these are the numbers of the switches.
 fn finished(reading: Reading, numbers: Vec<u8>) -> (Script, Tables)
     requires ready { IsReady reading }
     requires ended { AreEnded (told_of reading) }
@@ -195,7 +198,7 @@ fn finished(reading: Reading, numbers: Vec<u8>) -> (Script, Tables)
     (draft.script, tables)
 }
 
-// The numbers of so many switches, by place.
+// The numbers of `count` switches, by index.
 fn numbers_of(alloc: Global, draft: &TableDraft, count: u8) -> Result<Vec<u8>, OutOfMemory>
     ensures { IfOk result (λ v. v.items ≡ map (number_of draft.now) (range_with_len 0 count)) }
 {

@@ -1,11 +1,11 @@
 //! The words of a line of tables, one after another.
 
 ghost use Rattle.std.specs.Prelude.{◌≡◌, ◌<◌, ◌==◌, [], ◌∷◌, length, position, None, IfSome, IfNone};
-ghost use Rattle.text_lines.specs.Lines.{is_blank, parts_of, without_comment};
+ghost use Rattle.common_lines.specs.Lines.{is_blank, parts_of, without_comment};
 
 use memchr::memchr;
 
-/// What stands in a line before the first `#`.
+/// Returns the part of `line` before the first `#`.
 pub fn before_comment(line: &[u8]) -> &[u8]
     ensures { result.now ≡ without_comment line.now }
 {
@@ -15,15 +15,16 @@ pub fn before_comment(line: &[u8]) -> &[u8]
     }
 }
 
-// Where the first `#` stands.
+// The position of the first `#`.
 fn first_mark(line: &[u8]) -> Option<usize>
     ensures { result ≡ position (λ c. c == 35) line.now }
 {
     memchr(b'#', line)
 }
 
-/// The first part of a text between its blanks that is not empty, and what stands after the blank that
-/// follows it.
+/// Returns the first non-empty part of `text` between blanks, and the text after the blank that follows.
+///
+/// Returns `None` if there is no such part.
 pub fn next_word(text: &[u8]) -> Option<(&[u8], &[u8])>
     ensures some { IfSome result (λ r. parts_of text.now ≡ r.0.now ∷ parts_of r.1.now) }
     ensures less { IfSome result (λ r. length r.1.now < length text.now) }
@@ -39,7 +40,7 @@ pub fn next_word(text: &[u8]) -> Option<(&[u8], &[u8])>
     last_word(rest)
 }
 
-// The same of a text without blanks.
+// The same as `next_word` for a text without blanks.
 fn last_word(text: &[u8]) -> Option<(&[u8], &[u8])>
     requires { position is_blank text.now ≡ None }
     ensures some { IfSome result (λ r. parts_of text.now ≡ r.0.now ∷ parts_of r.1.now) }
@@ -52,7 +53,7 @@ fn last_word(text: &[u8]) -> Option<(&[u8], &[u8])>
     Some((text, &text[text.len()..]))
 }
 
-// Where the first blank stands.
+// The position of the first blank.
 fn first_blank(text: &[u8]) -> Option<usize>
     ensures { result ≡ position is_blank text.now }
 {

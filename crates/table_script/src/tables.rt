@@ -6,16 +6,17 @@ ghost use Rattle.table_script.specs.Tables.{IsTables, with_number_at};
 use an_base::row::Row;
 use std::marker::Model;
 
-// Gives a row the number of its switch in place of the place.
+// Replaces the index of a row's switch by its number.
 fn set_number(numbers: &[u8], row: &mut Row)
     ensures { row.new ≡ with_number_at numbers.now row.old }
 {
     row.at = numbers.get(usize::from(row.at)).copied().unwrap_or(0);
 }
 
-/// A number for each switch, by the switch's place, and rows of routing tables, in which a switch stands
-/// as its place. Each number, and each number to which a row leads, is 1 to 126; entries are 0 to 12; and
-/// no two rows have the same switch, entry and number.
+/// A number for each switch, by the switch's index, and rows of routing tables.
+///
+/// A row names its switch by index, and its target by number. Numbers are 1 to 126, entries are 0 to
+/// 12, and no two rows have the same switch, entry and target.
 #[derive(Drop)]
 pub struct Tables {
     numbers: Vec<u8>,
@@ -33,7 +34,9 @@ impl Model for Tables {
 }
 
 impl Tables {
-    /// The tables of these numbers and rows, without taking memory.
+    /// Creates the tables of these `numbers` and `rows`, without allocating.
+    ///
+    /// The caller must pass numbers and rows in range, and no two rows with the same switch, entry and target.
     pub fn new(numbers: Vec<u8>, rows: Vec<Row>) -> Self
         requires { IsTables (record { numbers = numbers.items; rows = rows.items }) }
         ensures { result ≡ record { numbers = numbers.items; rows = rows.items } }
@@ -41,7 +44,7 @@ impl Tables {
         Tables { numbers, rows }
     }
 
-    /// The numbers, by the switch's place.
+    /// Returns the numbers, by the switch's index.
     pub fn numbers(&self) -> &[u8]
         ensures all { result.now ≡ self.now.numbers }
         ensures kept { IsTables self.now }
@@ -49,7 +52,7 @@ impl Tables {
         &self.numbers
     }
 
-    /// The rows, in which `at` is the switch's number, without taking memory.
+    /// Returns the rows, with the switch's number in `at`, without allocating.
     pub fn into_numbered(self) -> Vec<Row>
         ensures { result.items ≡ map (with_number_at self.numbers) self.rows }
     {
@@ -63,7 +66,7 @@ impl Tables {
         rows
     }
 
-    /// The rows, in the order of the text, in which `at` is the switch's place.
+    /// Returns the rows in the order of the text, with the switch's index in `at`.
     pub fn rows(&self) -> &[Row]
         ensures all { result.now ≡ self.now.rows }
         ensures kept { IsTables self.now }

@@ -12,7 +12,7 @@ use Rattle.an_base.specs.Values.{LifeId, EntryOf}
 use Rattle.an_base.specs.Order.{life_cmp, LivesRise}
 use Rattle.an_base.specs.TotalOrders.{life_total}
 use Rattle.an_base.proofs.OrderLaws.{life_apart}
-use Rattle.an_base.proofs.OrderingLemmas.{less_is}
+use Rattle.common_values.proofs.OrderingLemmas.{less_is}
 use Rattle.an_base.proofs.LifeLemmas.{same_life, life_passes}
 use Rattle.topo_graph.specs.Topology.{nothing, entry_at, life_at, place_of}
 use Rattle.std.specs.Prelude.{Any, IsSome, ◌↔◌, Option}

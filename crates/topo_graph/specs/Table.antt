@@ -1,4 +1,4 @@
--- The far sides of all ports, as a graph keeps them. Only private functions cite this.
+-- The table of the far sides of all ports in a graph. Only private functions cite this.
 use Rattle.std.specs.Prelude.{◌≡◌, ℕ, ◌<◌, List, Option, Some, None, [], length, slice_index_or}
 use Rattle.std.specs.Option.{option_and_then}
 use Rattle.an_base.specs.Values.{EntryOf, PeerAt}
@@ -6,25 +6,25 @@ use Rattle.an_base.specs.Order.{PortsRise}
 use Rattle.topo_graph.specs.declared.graph.PortRow.{PortRow}
 use Rattle.topo_graph.specs.Topology.{entry_at, far_of, joined, link_at, AreWithin, IsGraph}
 
--- the cell of a port, none past the end
+-- the cell of `port`; there is none past the end
 abbrev pub cell_of : PortRow → ℕ → Option (ℕ × ℕ)
 cell_of row port = slice_index_or row.cells port None
 
--- the cell of a port of the entry at a place, none past the ends of the table
+-- the cell of `port` of the entry at index `place`; there is none outside the table
 abbrev pub cell_at : List PortRow → ℕ → ℕ → Option (ℕ × ℕ)
 cell_at rows place port = cell_of (slice_index_or rows place (record { cells = [] })) port
 
--- the row has the first links of the entry at a place
+-- the row `cells` has `links`, the first links of the entry at index `place`
 abbrev pub HasLinks : List EntryOf → ℕ → List PeerAt → List (Option (ℕ × ℕ)) → Type 0
 HasLinks entries place links cells =
     (port : ℕ) → slice_index_or cells port None ≡ option_and_then (joined entries place) (link_at links port)
 
--- each link of the graph is within it
+-- every link of the row `cells` is within the graph
 abbrev pub LinksAreWithin : List EntryOf → ℕ → List (Option (ℕ × ℕ)) → Type 0
 LinksAreWithin entries place cells =
     (port : ℕ) (far : ℕ × ℕ) → slice_index_or cells port None ≡ Some far → AreWithin entries place port far
 
--- the table has the first entries
+-- the table `rows` has the rows of the entries below `end`
 pub record AreRows (entries : List EntryOf) (rows : List PortRow) (end : ℕ) : Type 0 where
   pub count : length rows ≡ end
   pub cells : (place port : ℕ) → place < end → cell_at rows place port ≡ far_of entries place port
@@ -32,7 +32,7 @@ pub record AreRows (entries : List EntryOf) (rows : List PortRow) (end : ℕ) : 
   pub within :
       (place port : ℕ) (far : ℕ × ℕ) → cell_at rows place port ≡ Some far → AreWithin entries place port far
 
--- what a graph keeps with its entries: what is at the far side of each port
+-- the invariant of a graph: the table `rows` has what is at the far side of each port
 pub record IsKept (entries : List EntryOf) (rows : List PortRow) : Type 0 where
   pub graph : IsGraph entries
   pub cells : (place port : ℕ) → cell_at rows place port ≡ far_of entries place port

@@ -1,4 +1,4 @@
--- The links of entries that name each other, and the tree of them.
+-- The links of entries that name each other, and their tree.
 use Rattle.std.specs.Prelude.{◌≡◌, ◌≢◌, ◌==◌, ◌&&◌, ℕ, ◌<◌, ◌≤◌, List, [], length, Option, Some, None, Bool}
 use Rattle.std.specs.Prelude.{not, find, position, slice_index_or, Contains, if◌then◌else◌}
 use Rattle.std.specs.List.{list_any}
@@ -9,19 +9,19 @@ use Rattle.an_base.specs.Order.{life_cmp, LivesRise, PortsRise}
 use Rattle.an_base.specs.Tree.{Network, IsPlace}
 use Rattle.an_base.specs.declared.limits.TheConstants.{LAST_PORT, MOST_SWITCHES}
 
--- an entry of the life at the first end names the second end at the port of the first
+-- an entry of the life at the end `one` names the end `other` at the port of `one`
 abbrev pub Names : List EntryOf → EndId → EndId → Type 0
 Names entries one other =
     (entry : EntryOf) × Contains entries entry × (entry.life ≡ one.life)
     × Contains entry.links (record { port = one.port; peer = other })
 
--- a link of a topology: each of its ends names the other, and they are of two lives
+-- `one` and `other` are joined by a link of a topology: each end names the other, and they belong to two lives
 pub record IsLink (entries : List EntryOf) (one other : EndId) : Type 0 where
   pub there : Names entries one other
   pub back : Names entries other one
   pub apart : one.life ≢ other.life
 
--- no entry
+-- the value that represents a missing entry
 abbrev pub nothing : EntryOf
 nothing = record {
   life = record { uid = 0; boot = 0 };
@@ -35,36 +35,36 @@ nothing = record {
   links = [];
 }
 
--- the entry at a place
+-- the entry at index `place`
 abbrev pub entry_at : List EntryOf → ℕ → EntryOf
 entry_at entries place = slice_index_or entries place nothing
 
--- its life, and one end of a link there
+-- the life of the entry at index `place`, and its end at `port`
 abbrev pub life_at : List EntryOf → ℕ → LifeId
 life_at entries place = (entry_at entries place).life
 
 abbrev pub end_at : List EntryOf → ℕ → ℕ → EndId
 end_at entries place port = record { life = life_at entries place; port = port }
 
--- the level that the entry states
+-- the level that the entry at index `place` states
 abbrev pub level_at : List EntryOf → ℕ → ℕ
 level_at entries place = (entry_at entries place).position.level
 
--- the place of the entry of a life
+-- the index of the entry of `life`, if there is one
 abbrev pub place_of : List EntryOf → LifeId → Option ℕ
 place_of entries life = position (λ entry. is_eq (life_cmp entry.life life)) entries
 
--- whether a link has this port and this other end
+-- whether a link has the port `port` and the other end `end`
 abbrev pub is_to : ℕ → EndId → PeerAt → Bool
 is_to port end link =
     (link.port == port) && (is_eq (life_cmp link.peer.life end.life) && (link.peer.port == end.port))
 
--- whether the entry at a place names this end at a port
+-- whether the entry at index `place` names `end` at `port`
 abbrev pub names_at : List EntryOf → ℕ → ℕ → EndId → Bool
 names_at entries place port end = list_any (is_to port end) (entry_at entries place).links
 
--- the far place and port of a link that the entry at a place names, if the far entry names it too, and is
--- another
+-- the far index and port of a link that the entry at index `place` names, if the far entry also names it and is a
+-- different entry
 abbrev pub joined_at : List EntryOf → ℕ → PeerAt → ℕ → Option (ℕ × ℕ)
 joined_at entries place link far =
     if not (far == place) && names_at entries far link.peer.port (end_at entries place link.port)
@@ -73,25 +73,25 @@ joined_at entries place link far =
 abbrev pub joined : List EntryOf → ℕ → PeerAt → Option (ℕ × ℕ)
 joined entries place link = option_and_then (joined_at entries place link) (place_of entries link.peer.life)
 
--- the link of the list at a port
+-- the link of a list at `port`
 abbrev pub link_at : List PeerAt → ℕ → Option PeerAt
 link_at links port = find (λ link. link.port == port) links
 
--- the far place and port of the link at a port
+-- the far index and port of the link at `port` of the entry at index `place`
 abbrev pub far_of : List EntryOf → ℕ → ℕ → Option (ℕ × ℕ)
 far_of entries place port =
     option_and_then (joined entries place) (link_at (entry_at entries place).links port)
 
--- the network of a topology, with its entries as nodes
+-- the network whose nodes are the entries of a topology
 abbrev pub network : List EntryOf → Network
 network entries = record { count = length entries; life = life_at entries; far = far_of entries }
 
--- Each entry has its place in the tree of shortest walks to the least life. So the entries are one component.
+-- Every entry has its position in the tree of shortest walks to the lowest life. So the entries are one component.
 abbrev pub IsTree : List EntryOf → Type 0
 IsTree entries =
     (place : ℕ) → place < length entries → IsPlace (network entries) 0 place (entry_at entries place).position
 
--- the places and ports of a link are those of a topology
+-- the indices and ports at both sides of a link are those of a topology
 pub record AreWithin (entries : List EntryOf) (here out : ℕ) (far : ℕ × ℕ) : Type 0 where
   pub place : here < length entries
   pub port_least : 1 ≤ out
@@ -100,7 +100,7 @@ pub record AreWithin (entries : List EntryOf) (here out : ℕ) (far : ℕ × ℕ
   pub far_port_least : 1 ≤ far.1
   pub far_port_most : far.1 ≤ LAST_PORT
 
--- what every graph keeps of its entries
+-- the invariant of the entries of every graph
 pub record IsGraph (entries : List EntryOf) : Type 0 where
   pub some : 1 ≤ length entries
   pub most : length entries ≤ MOST_SWITCHES

@@ -1,4 +1,4 @@
-//! The graph of a topology. Its links are worked out once, into a table of far sides. Lesser places are lesser lives.
+//! The graph of a topology. Its links are computed once, as a table of far sides. Lower indices are lower lives.
 
 ghost use Rattle.std.specs.Prelude.{◌≡◌, ◌↔◌, ◌<◌, ◌≤◌, length, ℕ, Any, IsTrue, IsSome, IfOk, IfSome};
 ghost use Rattle.std.specs.Prelude.{MatchOption};
@@ -13,8 +13,8 @@ ghost use Rattle.std.specs.List.{list_any};
 use an_base::entry::{Entries, Entry};
 use an_base::life::{End, Life};
 use an_base::links::PortLink;
-use an_base::memory::OutOfMemory;
 use an_base::position::Position;
+use common_values::memory::OutOfMemory;
 use std::alloc::Global;
 use std::marker::Model;
 
@@ -111,8 +111,9 @@ fn is_at_root(place: &Position, root: Life) -> bool
     place.level == 0 && place.parent == root && place.port == 0
 }
 
-/// The entries of a topology and the links that both ends name. Contracts see it as the list of
-/// the entries. Inside, an entry is known by its place in that list.
+/// The entries of a topology and the links that both ends name.
+///
+/// Contracts see it as the list of the entries. Code names an entry by its index in that list.
 #[derive(Drop)]
 pub struct Graph {
     entries: Entries,
@@ -135,7 +136,10 @@ impl Graph {
     ghost use Rattle.topo_graph.specs.Topology.{IsGraph, IsTree};
     ghost use Rattle.topo_graph.specs.Stands.{IsAfter, IsNextBelow, IsParent, Stands};
 
-    /// The graph of the entries: its links are those that are named at both ends and join two lives.
+    /// Creates the graph of `entries`. Its links are those that are named at both ends and join two lives.
+    ///
+    /// # Errors
+    /// `OutOfMemory` if an allocation fails.
     pub fn of(alloc: Global, entries: &Entries) -> Result<Graph, OutOfMemory>
         ensures { IfOk result (λ graph. graph ≡ entries.now) }
     {
@@ -144,7 +148,7 @@ impl Graph {
         Ok(Graph { entries, rows })
     }
 
-    /// The entries of which the graph was made.
+    /// Returns the entries that the graph was made from.
     pub fn entries(&self) -> &Entries
         ensures all { result.now ≡ self.now }
         ensures graph { IsGraph self.now }
@@ -152,7 +156,7 @@ impl Graph {
         &self.entries
     }
 
-    /// How many entries there are, 1 to 126.
+    /// Returns the number of entries, 1 to 126.
     pub fn count(&self) -> u8
         ensures count { result ≡ length self.now }
         ensures graph { IsGraph self.now }
@@ -160,7 +164,7 @@ impl Graph {
         self.entries.len() as u8
     }
 
-    /// The place of the entry of a life, if it has one.
+    /// Returns the index of the entry of `life`, if it has one.
     pub fn place(&self, life: Life) -> Option<u8>
         ensures place { result ≡ place_of self.now life }
         ensures found { IsSome result ↔ Any (λ e. e.life ≡ life) self.now }
@@ -169,7 +173,7 @@ impl Graph {
         place(self.entries().as_slice(), life)
     }
 
-    /// The life of the entry at a place.
+    /// Returns the life of the entry at index `x`, which must be below the number of entries.
     pub fn life(&self, x: u8) -> Life
         requires { x < length self.now }
         ensures { result ≡ life_at self.now x }
@@ -178,7 +182,7 @@ impl Graph {
         entry.life
     }
 
-    /// Where the entry at a place states that it stands.
+    /// Returns the position that the entry at index `x` states. The index must be below the number of entries.
     pub fn position(&self, x: u8) -> Position
         requires { x < length self.now }
         ensures { result ≡ (entry_at self.now x).position }
@@ -187,7 +191,9 @@ impl Graph {
         entry.position
     }
 
-    /// The level that the entry at a place states, 0 to 125.
+    /// Returns the level, 0 to 125, that the entry at index `x` states.
+    ///
+    /// The caller must pass an index below the number of entries.
     pub fn level(&self, x: u8) -> u8
         requires { x < length self.now }
         ensures level { result ≡ level_at self.now x }
@@ -197,8 +203,8 @@ impl Graph {
         entry.position.level
     }
 
-    /// The place and the port at the far side of a port of the entry at a place, if the graph has a
-    /// link there. It answers for all values.
+    /// Returns the index and the port at the far side of `port` of the entry at index `x`, if the graph
+    /// has a link there. It accepts all values.
     pub fn far_place(&self, x: u8, port: u8) -> Option<(u8, u8)>
         ensures far { result ≡ far_of self.now x port }
         ensures graph { IsGraph self.now }
@@ -206,8 +212,8 @@ impl Graph {
         cell(&self.rows, x, port)
     }
 
-    /// The other end of the link at this port of this life, None exactly if the graph has no link
-    /// there.
+    /// Returns the other end of the link at `port` of `life`, or `None` if and only if the graph has no
+    /// link there.
     pub fn far(&self, life: Life, port: u8) -> Option<End>
         ensures { MatchOption result
             ((b : EndId) → ¬ IsLink self.now (record { life = life; port = port }) b)
@@ -276,8 +282,8 @@ impl Graph {
         is_at_root(place, root)
     }
 
-    /// Whether the entries are one component of the links, each with its place in the tree of
-    /// shortest walks to the least life.
+    /// Reports whether the entries are one component of the links, each with its position in the tree
+    /// of shortest walks to the lowest life.
     pub fn tree_ok(&self) -> bool
         ensures { IsTrue result ↔ IsTree self.now }
     {

@@ -6,7 +6,7 @@ use Rattle.std.proofs.lemmas.Bool.Decides.{nat_tests}
 use Rattle.std.specs.Cmp.{upto, tied_itself, Equal-is}
 use Rattle.an_base.specs.Values.{LifeId, EntryOf}
 use Rattle.an_base.specs.Order.{life_cmp, entry_cmp}
-use Rattle.an_base.proofs.OrderingLemmas.{not_above, at_most, tied}
+use Rattle.common_values.proofs.OrderingLemmas.{not_above, at_most, tied}
 use Rattle.an_base.specs.TotalOrders.{life_total}
 use Rattle.an_base.proofs.OrderLaws.{life_apart, entry_total, entry_apart}
 use Rattle.topo_report.specs.Report.{lesser_entry, is_of, IsAtMost}

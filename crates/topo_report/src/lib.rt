@@ -1,7 +1,9 @@
-//! The report of a life: the least entry of each life of which it has heard, by rising life.
+//! autonet, switch: merging of topology reports on their way to the root.
 //!
-//! It stands on an_base. Its contract: a report is the least entry of each life among all that was
-//! merged, in whatever order; of more than 126 lives it keeps the life itself and the 125 least
+//! The report of a life has the least entry of each life that it has heard of, in ascending order of life.
+//!
+//! It depends on `an_base` for entries and their order. Its contract: a report has the least entry of each life
+//! among all that was merged, in any order; of more than 126 lives it keeps the life itself and the 125 least
 //! others.
 #![tactic(auto)]
 

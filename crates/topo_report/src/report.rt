@@ -1,4 +1,4 @@
-//! The report of a life. Lists by rising life are merged in one pass, in which the greatest lives may find no room.
+//! The report of a life. Lists in ascending order of life are merged in one pass, which can cut the greatest lives.
 
 ghost use Rattle.std.specs.Prelude.{◌≡◌, ◌≤◌, [], ◌∷◌, ◌++◌, length, MatchOption, OnOk, OnErr, IfOk};
 ghost use Rattle.an_base.specs.Order.{LivesRise};
@@ -9,12 +9,12 @@ ghost use Rattle.topo_report.specs.Inside.{TakesFirst};
 use an_base::entry::{Entries, Entry};
 use an_base::life::Life;
 use an_base::limits::MOST_SWITCHES;
-use an_base::memory::OutOfMemory;
+use common_values::memory::OutOfMemory;
 use std::alloc::Global;
 use std::cmp::Ordering;
 use std::marker::Model;
 
-/// The most entries that a report keeps of lives other than its own: one less than `MOST_SWITCHES`.
+/// The largest number of entries that a report keeps of lives other than its own: `MOST_SWITCHES` less one.
 pub const MOST_OTHERS: usize = 125;
 
 // The lesser of two entries of one life.
@@ -28,7 +28,7 @@ fn lesser<'a>(one: &'a Entry, other: &'a Entry) -> &'a Entry
     }
 }
 
-// The first life of two lists by rising life: its least entry, and what is left of both lists.
+// The first life of two lists in ascending order of life: its least entry, and the rest of both lists.
 fn take_first<'a>(
     mine: &'a [Entry],
     heard: &'a [Entry],
@@ -53,7 +53,7 @@ fn take_first<'a>(
     }
 }
 
-// The entries of the report of a life, from two lists by rising life.
+// The entries of the report of a life, from two lists in ascending order of life.
 fn merged<'a>(
     alloc: Global,
     me: Life,
@@ -82,8 +82,9 @@ fn merged<'a>(
     Ok(items)
 }
 
-/// The least entry of each life of which a life has heard, by rising life: of more than 126 lives
-/// that life itself and the 125 least others.
+/// The least entry of each life that a life has heard of, in ascending order of life.
+///
+/// Of more than 126 lives, it keeps that life itself and the 125 least others.
 #[derive(Drop)]
 pub struct Report {
     me: Life,
@@ -100,8 +101,10 @@ impl Model for Report {
 }
 
 impl Report {
-    /// The report that has this entry alone, made for the life of the entry. The allocator is kept
-    /// for the merges.
+    /// Creates the report, for the life of `entry`, that has only this entry. It keeps `alloc` for the merges.
+    ///
+    /// # Errors
+    /// `OutOfMemory` if the allocation fails.
     pub fn of(alloc: Global, entry: Entry) -> Result<Report, OutOfMemory>
         ensures { IfOk result (λ report. report ≡ record { me = entry.life; entries = entry ∷ [] }) }
     {
@@ -110,9 +113,12 @@ impl Report {
         Ok(Report { me, entries, alloc })
     }
 
-    /// Takes in other entries: of each life the least entry stays, and of more than 126 lives the
-    /// life for which the report was made and the 125 least others. If no memory is found, the
-    /// report is unchanged.
+    /// Merges `other` into the report, keeping the least entry of each life.
+    ///
+    /// Of more than 126 lives, it keeps the life that the report was made for and the 125 least others.
+    ///
+    /// # Errors
+    /// `OutOfMemory` if an allocation fails. The report is then unchanged.
     pub fn merge(&mut self, other: &Entries) -> Result<(), OutOfMemory>
         ensures ok { OnOk result (self.new
             ≡ record self.old { entries = report_of self.old.me (self.old.entries ++ other.now) }) }
@@ -124,14 +130,14 @@ impl Report {
         Ok(())
     }
 
-    /// The entries of the report by rising life.
+    /// Returns the entries of the report, in ascending order of life.
     pub fn entries(&self) -> &Entries
         ensures { result.now ≡ self.now.entries }
     {
         &self.entries
     }
 
-    /// The entries of the report by rising life, without taking memory.
+    /// Returns the entries of the report, in ascending order of life, without allocating.
     pub fn into_entries(self) -> Entries
         ensures { result ≡ self.entries }
     {

@@ -7,7 +7,7 @@ use Rattle.std.proofs.lemmas.Bool.Decides.{Decides-eqb}
 use Rattle.std.specs.Prelude.{replicate}
 use Rattle.an_base.specs.Values.{Place, PeerAt}
 use Rattle.an_base.specs.Order.{position_cmp}
-use Rattle.an_base.proofs.OrderingLemmas.{not_above, at_most}
+use Rattle.common_values.proofs.OrderingLemmas.{not_above, at_most}
 use Rattle.an_base.proofs.OrderLaws.{position_total}
 use Rattle.tree_position.specs.declared.offers.Offer.{Offer}
 use Rattle.tree_position.specs.Position.{candidate, candidates, lesser, least, noted, IsLeast}

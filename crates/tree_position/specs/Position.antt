@@ -1,4 +1,5 @@
--- The position of a life: the least of its own as a root and of what the last offers on its links give.
+-- The position of a life: the least of its own position as a root and of those that the last offers on its links
+-- give.
 use Rattle.std.specs.Prelude.{◌==◌, ℕ, ◌+◌, List, [], ◌∷◌, ◌++◌, Option, Some, None, if◌then◌else◌, nat_lt}
 use Rattle.std.specs.Prelude.{Contains, IsTrue}
 use Rattle.std.specs.Ordering.{is_lt, is_le}
@@ -7,7 +8,7 @@ use Rattle.an_base.specs.Order.{position_cmp}
 use Rattle.an_base.specs.declared.limits.TheConstants.{MOST_LEVEL}
 use Rattle.tree_position.specs.declared.offers.Offer.{Offer}
 
--- a life, its links by rising port, and the last offer on each
+-- a life, its links in ascending order of port, and the last offer on each
 pub record OffersOf : Type 0 where
   pub me : LifeId
   pub links : List PeerAt
@@ -17,12 +18,12 @@ pub record OffersOf : Type 0 where
 abbrev pub self_root : LifeId → Place
 self_root me = record { root = me; level = 0; parent = me; port = 0 }
 
--- what an offer on a link gives: the same root, one level further, behind this link
+-- the position that an offer on a link gives: the same root, one level further down, over this link
 abbrev pub below_offer : PeerAt → Offer → Place
 below_offer link offer =
     record { root = offer.root; level = offer.level + 1; parent = link.peer.life; port = link.port }
 
--- the position that the last offer on a link gives; one of the deepest level gives none: no tree is deeper
+-- the position that the last offer on a link gives; one of the deepest level gives none, because no tree is deeper
 abbrev pub candidate : PeerAt → Option Offer → List Place
 candidate link None = []
 candidate link (Some offer) = if nat_lt offer.level MOST_LEVEL then below_offer link offer ∷ [] else []
@@ -33,27 +34,27 @@ candidates [] offered = []
 candidates (link ∷ links) [] = []
 candidates (link ∷ links) (offer ∷ offered) = candidate link offer ++ candidates links offered
 
--- the lesser of two places; the first if they are alike
+-- the lesser of two positions; the first if they are equal
 abbrev pub lesser : Place → Place → Place
 lesser one other = if is_lt (position_cmp other one) then other else one
 
--- the least of a place and those of a list
+-- the least of a position and those of a list
 abbrev pub least : Place → List Place → Place
 least first [] = first
 least first (second ∷ others) = least (lesser first second) others
 
--- the least of the own position as a root and of the candidates
+-- the position of a life: the least of its own position as a root and of the candidates
 abbrev pub position_of : LifeId → List PeerAt → List (Option Offer) → Place
 position_of me links offered = least (self_root me) (candidates links offered)
 
--- the offers after one more on a port
+-- the offers after one more on `port`
 abbrev pub noted : List PeerAt → List (Option Offer) → ℕ → Offer → List (Option Offer)
 noted [] offered port offer = offered
 noted (link ∷ links) [] port offer = []
 noted (link ∷ links) (old ∷ offered) port offer =
     (if link.port == port then Some offer else old) ∷ noted links offered port offer
 
--- it is one of the places, and none of them is less
+-- `place` is one of the positions, and none of them is less
 pub record IsLeast (place : Place) (places : List Place) : Type 0 where
   pub one : Contains places place
   pub least : (other : Place) → Contains places other → IsTrue (is_le (position_cmp place other))

@@ -1,7 +1,9 @@
-//! The position of a life in the spanning tree that its neighbours offer it.
+//! autonet, switch: the parent that a switch takes in the spanning tree.
 //!
-//! It stands on an_base. Its contract: the position is the least of the life's own, as a root, and
-//! of what the last offers on its links give.
+//! It computes the position of a life (root, level, parent and port) from what its neighbours offer.
+//!
+//! It depends on `an_base` for the order of positions. Its contract: the position is the least of the life's own
+//! position as a root and of those that the last offers on its links give.
 #![tactic(auto)]
 
 pub mod law;

@@ -1,4 +1,4 @@
-//! What the neighbours of a life offer, and the position that follows. Of each link only the last offer counts.
+//! The offers of a life's neighbours, and the position that follows. On each link only the last offer counts.
 
 ghost use Rattle.std.specs.Prelude.{◌≡◌, ◌≤◌, length, None, replicate, option_to_list};
 ghost use Rattle.an_base.specs.declared.limits.TheConstants.{LAST_PORT};
@@ -10,7 +10,7 @@ use an_base::links::{Links, PortLink};
 use an_base::position::Position;
 use std::marker::Model;
 
-// A place for each external port, and one for the switch itself, port 0.
+// A slot for each external port, and one for the switch itself, port 0.
 const PLACES: usize = PORTS + 1;
 
 /// What a neighbour offers: its root, and its level.
@@ -18,12 +18,13 @@ const PLACES: usize = PORTS + 1;
 pub struct Offer {
     /// The neighbour's root.
     pub root: Life,
-    /// The neighbour's level. One of `MOST_LEVEL` or more gives no position, since no tree is deeper.
+    /// The neighbour's level. One of `MOST_LEVEL` or more gives no position, because no tree is deeper.
     pub level: u8,
 }
 
-/// The last offer on each link of a life. It takes no memory. Contracts see the life, its links by
-/// rising port, and for each link the last offer, if there was one.
+/// The last offer on each link of a life, in memory of fixed size.
+///
+/// Contracts see the life, its links in ascending order of port, and the last offer on each link, if any.
 #[derive(Drop)]
 pub struct Offers {
     me: Life,
@@ -56,7 +57,7 @@ fn position_below(link: &PortLink, offer: Option<Offer>) -> Option<Position>
     Some(Position::new(offer.root, offer.level + 1, parent, link.port()))
 }
 
-// The lesser of a position and one that there may be.
+// The lesser of a position and one that may be absent.
 fn lesser_of(best: Position, found: Option<Position>) -> Position
     ensures { result ≡ least best (option_to_list found) }
 {
@@ -67,7 +68,7 @@ fn lesser_of(best: Position, found: Option<Position>) -> Position
 }
 
 impl Offers {
-    /// The links of a life, without an offer on any.
+    /// Creates the links of a life, without an offer on any of them.
     pub fn new(me: Life, links: &Links) -> Self
         ensures { result ≡ record {
           me = me;
@@ -82,8 +83,9 @@ impl Offers {
         }
     }
 
-    /// Takes the root and level that were last offered on a port, at most `LAST_PORT`. Other ports
-    /// keep theirs.
+    /// Records the last `root` and `level` offered on `port`, at most `LAST_PORT`.
+    ///
+    /// The offers on other ports do not change.
     pub fn note(&mut self, port: u8, root: Life, level: u8)
         requires { port ≤ LAST_PORT }
         ensures { self.new ≡ record self.old {
@@ -93,7 +95,7 @@ impl Offers {
         self.offers[usize::from(port)] = Some(Offer { root, level });
     }
 
-    /// The least of the life's own position as a root and of what the offers give.
+    /// Returns the least of the life's own position as a root and of those that the offers give.
     pub fn best(&self) -> Position
         ensures { result ≡ position_of self.now.me self.now.links self.now.offered }
     {

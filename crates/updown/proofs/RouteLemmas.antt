@@ -7,11 +7,11 @@ use Rattle.std.proofs.lemmas.Bool.Decides.{nat_tests}
 use Rattle.std.proofs.lemmas.List.Elements.{All-head, All-tail, All-cons, All-nil, All-weaker}
 use Rattle.std.proofs.lemmas.List.Kept.{AllPairs-cons}
 use Rattle.an_base.specs.Values.{EntryOf}
-use Rattle.an_base.proofs.ListLemmas.{AllPairs-head, AllPairs-tail}
+use Rattle.common_values.proofs.ListLemmas.{AllPairs-head, AllPairs-tail}
 use Rattle.an_base.specs.Order.{life_cmp}
 use Rattle.an_base.specs.TotalOrders.{life_total}
 use Rattle.an_base.proofs.OrderLaws.{life_apart}
-use Rattle.an_base.proofs.OrderingLemmas.{then_equal}
+use Rattle.common_values.proofs.OrderingLemmas.{then_equal}
 use Rattle.topo_graph.specs.Topology.{life_at, level_at, far_of, IsGraph}
 use Rattle.topo_graph.proofs.FarLemmas.{one_place, far_is_link}
 use Rattle.topo_graph.proofs.PlaceLemmas.{life_same, rises}

@@ -1,25 +1,25 @@
--- Places from the highest to the lowest.
+-- The entries from the highest to the lowest.
 use Rattle.std.specs.Prelude.{◌≡◌, ℕ, ◌<◌, ◌≤◌, List, length, All, Any, false, slice_index_or}
 use Rattle.an_base.specs.Values.{EntryOf}
 use Rattle.topo_graph.specs.Topology.{level_at}
 use Rattle.updown.specs.declared.order.Height.{Height}
 use Rattle.updown.specs.Routes.{is_up_end}
 
--- the place at an index of the order
+-- the entry at `index` of the order
 abbrev pub place_at : List Height → ℕ → ℕ
 place_at order index = (slice_index_or order index (record { level = 0; place = 0 })).place
 
--- the height is that of the place
+-- `height` is the height of its entry
 abbrev pub IsHeight : List EntryOf → Height → Type 0
 IsHeight entries height = (height.place < length entries) × (height.level ≡ level_at entries height.place)
 
--- the places below end, with their levels
+-- `heights` are those of the entries below `end`
 pub record AreHeights (entries : List EntryOf) (end : ℕ) (heights : List Height) : Type 0 where
   pub count : length heights ≡ end
   pub each : All (IsHeight entries) heights
   pub whole : (place : ℕ) → place < end → Any (λ height. height.place ≡ place) heights
 
--- all places, so that none is higher than one before it
+-- `order` has all entries, and none is higher than one before it
 pub record IsDescent (entries : List EntryOf) (order : List Height) : Type 0 where
   pub heights : AreHeights entries (length entries) order
   pub falling :

@@ -1,4 +1,4 @@
-//! Lengths by life: the distances keep the graph's lives, so that no caller needs places.
+//! Lengths by life: the distances keep the graph's lives, so that callers need no indices.
 
 ghost use Rattle.std.specs.Prelude.{◌≡◌, ◌≤◌, length};
 ghost use Rattle.an_base.specs.declared.limits.TheConstants.{MOST_SWITCHES};
@@ -8,8 +8,8 @@ use crate::length::Lengths;
 use an_base::life::Life;
 use std::marker::Model;
 
-/// How far it is from each life of a graph to one life, the same for all, by legal routes and by routes
-/// with downward links alone.
+/// The distances from each life of a graph to one fixed life, by legal routes and by routes with only
+/// downward links.
 #[derive(Drop)]
 pub struct Distances {
     lives: Vec<Life>,
@@ -48,15 +48,15 @@ impl Distances {
         None
     }
 
-    /// The least length of a legal route from a life, None exactly if there is none.
+    /// Returns the lowest length of a legal route from `life`, or `None` if and only if there is none.
     pub fn up(&self, life: Life) -> Option<u8>
         ensures { result ≡ up_of self.now life }
     {
         self.lengths.up(self.place(life)?)
     }
 
-    /// The least length of a route from a life with downward links alone, None exactly if there
-    /// is none.
+    /// Returns the lowest length of a route with only downward links from `life`, or `None` if and only
+    /// if there is none.
     pub fn down(&self, life: Life) -> Option<u8>
         ensures { result ≡ down_of self.now life }
     {

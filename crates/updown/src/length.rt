@@ -1,4 +1,4 @@
-//! Lengths to one place, in two passes: downward routes from the lowest place up, then legal ones from the top down.
+//! Lengths to one entry, in two passes: downward routes from the lowest entry up, then legal routes from the top down.
 
 ghost use Rattle.std.specs.Prelude.{◌≡◌, ℕ, Some, None, length, IfOk};
 ghost use Rattle.topo_graph.specs.Topology.{IsGraph};
@@ -9,7 +9,7 @@ ghost use Rattle.updown.specs.Lengths.{lesser_of, Onward};
 
 use crate::order::{Descent, Height};
 use crate::route::is_up_end;
-use an_base::memory::OutOfMemory;
+use common_values::memory::OutOfMemory;
 use std::alloc::Global;
 use std::marker::Model;
 use topo_graph::graph::Graph;
@@ -113,8 +113,8 @@ fn up_lengths(
     Ok(up)
 }
 
-/// The lengths of shortest routes from each place of a graph to one place: of legal routes, and of
-/// routes with downward links alone.
+/// The lengths of shortest routes from every entry of a graph to one entry: legal routes, and routes
+/// with only downward links.
 #[derive(Drop)]
 pub struct Lengths {
     up: Vec<Option<u8>>,
@@ -130,7 +130,10 @@ impl Model for Lengths {
 }
 
 impl Lengths {
-    /// The lengths to a place.
+    /// Returns the lengths to the entry at index `to`. The caller must pass the `descent` of `graph`.
+    ///
+    /// # Errors
+    /// `OutOfMemory` if an allocation fails.
     pub fn to(
         alloc: Global,
         graph: &Graph,
@@ -146,14 +149,15 @@ impl Lengths {
         Ok(Lengths { up, down })
     }
 
-    /// The least length of a legal route from a place, if there is one.
+    /// Returns the lowest length of a legal route from the entry at index `x`, if there is one.
     pub fn up(&self, x: u8) -> Option<u8>
         ensures { result ≡ length_at self.now.up x }
     {
         self.up.get(usize::from(x)).copied().flatten()
     }
 
-    /// The least length of a route from a place with downward links alone, if there is one.
+    /// Returns the lowest length of a route with only downward links from the entry at index `x`, if
+    /// there is one.
     pub fn down(&self, x: u8) -> Option<u8>
         ensures { result ≡ length_at self.now.down x }
     {

@@ -1,9 +1,10 @@
-//! Which end of a link is up, which routes are legal, and how long the shortest ones are.
+//! autonet, tables: up*/down* routes, legal and shortest ones.
 //!
-//! It stands on an_base and topo_graph. Its contract: the up end of a link is the end of lower
-//! level, at equal level of lesser life; a route is legal if no upward link follows a downward
-//! one; and the distances to a place are the least lengths of legal routes and of routes with
-//! downward links alone.
+//! The up end of a link is the end of lower level; at equal level, the end of lower life. A route is legal if no
+//! upward link follows a downward one.
+//!
+//! It depends on `topo_graph`. Its contract: the distances to a life are the lowest lengths of legal routes, and of
+//! routes with only downward links.
 #![tactic(auto)]
 
 pub mod distance;

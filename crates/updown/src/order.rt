@@ -1,20 +1,20 @@
-//! The order of places in which passes over a graph go, so that no length is needed before it is known.
+//! The order of the passes over a graph's entries, so that no length is needed before it is known.
 
 ghost use Rattle.std.specs.Prelude.{length, IfOk};
 ghost use Rattle.topo_graph.specs.Topology.{IsGraph};
 ghost use Rattle.updown.specs.Order.{AreHeights, IsDescent};
 
-use an_base::items::Items;
-use an_base::memory::OutOfMemory;
+use common_values::items::Items;
+use common_values::memory::OutOfMemory;
 use std::alloc::Global;
 use topo_graph::graph::Graph;
 
-/// How high the entry at a place stands: by level, then by place, the lesser the higher.
+/// The height of an entry: ordered by level, then by index. Lower values are higher in the tree.
 #[derive(Clone, Copy, PartialEq, Eq, PartialOrd, Ord)]
 pub struct Height {
     /// The level that the entry states.
     pub level: u8,
-    /// The place of the entry.
+    /// The index of the entry.
     pub place: u8,
 }
 
@@ -31,11 +31,14 @@ fn heights_of(alloc: Global, graph: &Graph) -> Result<Vec<Height>, OutOfMemory>
     Ok(heights)
 }
 
-/// The places of a graph from the highest to the lowest, so that each upward link leads to an
-/// earlier one and each downward link to a later one.
+/// The entries of a graph from the highest to the lowest. So every upward link leads to an earlier
+/// entry, and every downward link to a later one.
 pub type Descent = Items<Height>;
 
-/// The places of a graph from the highest to the lowest.
+/// Returns the entries of `graph` from the highest to the lowest.
+///
+/// # Errors
+/// `OutOfMemory` if an allocation fails.
 pub fn descent_of(alloc: Global, graph: &Graph) -> Result<Descent, OutOfMemory>
     ensures { IfOk result (λ descent. IsDescent graph.now descent) }
 {

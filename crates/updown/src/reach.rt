@@ -1,4 +1,4 @@
-//! The call that makes distances: the order of the places, the lengths along it, and the lives.
+//! The computation of distances: the order of the entries, the lengths in that order, and the lives.
 
 ghost use Rattle.std.specs.Prelude.{◌≡◌, ◌≤◌, Any, map, length, IfOk};
 ghost use Rattle.an_base.specs.declared.limits.TheConstants.{MOST_SWITCHES};
@@ -8,7 +8,7 @@ use crate::distance::Distances;
 use crate::length::Lengths;
 use crate::order::descent_of;
 use an_base::life::Life;
-use an_base::memory::OutOfMemory;
+use common_values::memory::OutOfMemory;
 use std::alloc::Global;
 use topo_graph::graph::Graph;
 
@@ -25,7 +25,10 @@ fn lives_of(alloc: Global, graph: &Graph) -> Result<Vec<Life>, OutOfMemory>
     Ok(lives)
 }
 
-/// The distances to a life of the graph.
+/// Returns the distances to `to`. The caller must pass a life of the graph.
+///
+/// # Errors
+/// `OutOfMemory` if an allocation fails.
 pub fn distances(alloc: Global, graph: &Graph, to: Life) -> Result<Distances, OutOfMemory>
     requires { Any (λ e. e.life ≡ to) graph.now }
     ensures { IfOk result (AreDistances graph.now to) }

@@ -1,4 +1,4 @@
-//! Which end of a link is up, and which routes are legal.
+//! The up ends of links, and legal routes.
 
 ghost use Rattle.std.specs.Prelude.{◌≡◌, ◌↔◌, ◌<◌, ℕ, Some, length, IsTrue, Any};
 ghost use Rattle.an_base.specs.Order.{life_cmp};
@@ -20,8 +20,10 @@ fn lives_cmp(graph: &Graph, x: u8, y: u8) -> Ordering
     x.cmp(&y)
 }
 
-/// Whether, of a link between the entries at two places, the first is the up end: the end of lower
-/// level, at equal level of lesser life.
+/// Reports whether the entry at index `x` is the up end of a link to the entry at index `y`.
+///
+/// The up end is the end of lower level; at equal level, the end of lower life. The caller must pass
+/// indices below the number of entries.
 pub fn is_up_end(graph: &Graph, x: u8, y: u8) -> bool
     requires x { x < length graph.now }
     requires y { y < length graph.now }
@@ -31,7 +33,7 @@ pub fn is_up_end(graph: &Graph, x: u8, y: u8) -> bool
     graph.level(x).cmp(&graph.level(y)).then(lives).is_lt()
 }
 
-/// The life at the up end of the link at this port of this life. The port has a link.
+/// Returns the life at the up end of the link at `port` of `life`. The caller must pass a port with a link.
 pub fn up_end(graph: &Graph, life: Life, port: u8) -> Life
     requires { HasLink graph.now life port }
     ensures { (x y q : ℕ) → place_of graph.now life ≡ Some x → far_of graph.now x port ≡ Some (y, q)
@@ -46,9 +48,10 @@ pub fn up_end(graph: &Graph, life: Life, port: u8) -> Life
     }
 }
 
-/// Whether the ports lead over links from a life of the graph along a legal route: one in which no
-/// upward link follows a downward one. No ports are a legal route, and a port without a link makes
-/// it none.
+/// Reports whether `ports` lead from the life `from` over links along a legal route.
+///
+/// No upward link of a legal route follows a downward one. An empty list is a legal route, and a list
+/// with a port without a link is not. The caller must pass a life of the graph.
 pub fn is_legal(graph: &Graph, from: Life, ports: &[u8]) -> bool
     requires { Any (λ e. e.life ≡ from) graph.now }
     ensures { (x : ℕ) → place_of graph.now from ≡ Some x

@@ -1,4 +1,4 @@
--- The state of the wires, what each call makes of it, and what becomes of a frame.
+-- The state of the wires, the effect of each call on it, and the result of putting or taking a frame.
 use Rattle.std.specs.Prelude.{◌≡◌, ℕ, ◌+◌, ◌-◌, ◌*◌, ◌/◌, ◌%◌, ◌^◌, ◌<◌, min, List, [], length, map}
 use Rattle.std.specs.Prelude.{replicate}
 use Rattle.std.specs.Prelude.{slice_index_or, slice_set, Option, Some, None, is_some, Bool, true, false, not}
@@ -15,14 +15,13 @@ use Rattle.wire_set.specs.declared.side.Put.TheVariants.{Kept, Lost}
 use Rattle.wire_set.specs.declared.side.Taken.{Taken}
 use Rattle.wire_set.specs.Frames.{FramesOf, frames_at, frame, put_frame, clear, move_first, move_second}
 
--- The state of the wires: for each port of each switch its side of a link, with the told counts of the wire
--- into it, and the frames on that wire. The frames of port 0, which has no link, are the one that the switch
--- holds.
+-- the state of the wires: for each port of each switch its side of a link, with the counts of the wire into it, and
+-- the frames on that wire; port 0, which has no link, has the frame that the switch holds
 pub record WiresOf : Type 0 where
   pub sides : List Side
   pub frames : FramesOf
 
--- the place of a port, 0 to 12, of a switch
+-- the index of a port, 0 to 12, of a switch
 abbrev pub place : ℕ → ℕ → ℕ
 place switch port = 13 * switch + port
 
@@ -30,11 +29,11 @@ place switch port = 13 * switch + port
 abbrev pub unused : Side
 unused = record { far = None; is_up = false; lose = 0; again = 0; swap = 0 }
 
--- the side at this place
+-- the side at index `at`
 abbrev pub side_at : WiresOf → ℕ → Side
 side_at wires at = slice_index_or wires.sides at unused
 
--- the frames on the wire into a port
+-- the frames on the wire into the port at index `at`
 abbrev pub wire_at : WiresOf → ℕ → List (List ℕ)
 wire_at wires at = frames_at wires.frames at
 
@@ -42,17 +41,17 @@ wire_at wires at = frames_at wires.frames at
 abbrev pub hand_of : WiresOf → ℕ → List (List ℕ)
 hand_of wires switch = wire_at wires (place switch 0)
 
--- a link of two switch ports
+-- whether there is a link of two switch ports
 abbrev pub is_link : Option Far → Bool
 is_link None = false
 is_link (Some (Switch switch port)) = true
 is_link (Some (HostAt host)) = false
 
--- a port has a link of two switch ports, and the wire into it a frame; by the place of the port
+-- whether the port at index `at` has a link of two switch ports, and the wire into it a frame
 abbrev pub has_frame_on : WiresOf → ℕ → Bool
 has_frame_on wires at = is_link (side_at wires at).far && nat_lt 0 (length (wire_at wires at))
 
--- the place of the port at the other end of a link
+-- the index of the port at the other end of a link
 abbrev pub far_place : Option Far → ℕ
 far_place None = 0
 far_place (Some (Switch switch port)) = place switch port
@@ -66,19 +65,19 @@ HasLink wires switch port = (port < 13) × (is_link (side_at wires (place switch
 abbrev pub IsUsed : WiresOf → ℕ → ℕ → Type 0
 IsUsed wires switch port = (port < 13) × (is_some (side_at wires (place switch port)).far ≡ true)
 
--- the wire out of a switch by a port: that into the far one
+-- the index of the wire out of a switch at a port: that of the far port
 abbrev pub wire_out : WiresOf → ℕ → ℕ → ℕ
 wire_out wires switch port = far_place (side_at wires (place switch port)).far
 
--- the side at this place is another then
+-- the wires with another side at index `at`
 abbrev pub with_side : ℕ → Side → WiresOf → WiresOf
 with_side at side wires = record wires { sides = slice_set wires.sides at side }
 
--- the side of a port at the beginning: its link, if it has one, is up
+-- the side of a port at the start: its link, if it has one, is up
 abbrev pub side_of : Option Far → Side
 side_of far = record { far = far; is_up = is_some far; lose = 0; again = 0; swap = 0 }
 
--- all links are up, and nothing is on the wires
+-- the wires at the start: all links are up, and the wires are empty
 abbrev pub start : Wires → ℕ → WiresOf
 start wiring blocks = record {
   sides =
@@ -87,12 +86,12 @@ start wiring blocks = record {
   frames = record { queues = replicate (13 * length wiring.switches) []; free = blocks; limit = blocks };
 }
 
--- one loss less is to come
+-- the side with one loss less to come
 abbrev pub less_to_lose : Side → Side
 less_to_lose side = record side { lose = side.lose - 1 }
 
--- A frame is put on a wire, from the port at its other end: it is lost if the link is down, else if a
--- loss is told, else if it has no room.
+-- the wires after a frame is put on a wire from the port at its other end: it is lost if the link is down, otherwise
+-- if a loss is still to come, otherwise if too few blocks are free
 abbrev pub put_into : ℕ → ℕ → List ℕ → WiresOf → WiresOf
 put_into from wire bytes wires =
     if not (side_at wires from).is_up then wires
@@ -100,7 +99,7 @@ put_into from wire bytes wires =
     else if nat_lt wires.frames.free (blocks_of bytes) then wires
     else record wires { frames = put_frame wire bytes wires.frames }
 
--- what becomes of it: the first cause of a loss, or it is kept
+-- the result of putting a frame on a wire: the first reason for a loss, or it is kept
 abbrev pub what_becomes : ℕ → ℕ → List ℕ → WiresOf → Put
 what_becomes from wire bytes wires =
     if not (side_at wires from).is_up then Lost Down
@@ -108,19 +107,19 @@ what_becomes from wire bytes wires =
     else if nat_lt wires.frames.free (blocks_of bytes) then Lost (NoRoom (blocks_of bytes) wires.frames.free)
     else Kept
 
--- the frame that is taken is the second one if an exchange is told and there are two
+-- whether the second frame is taken: an exchange is still to come, and there are two frames
 abbrev pub is_second : ℕ → WiresOf → Bool
 is_second wire wires = nat_lt 0 (side_at wires wire).swap && nat_lt 1 (length (wire_at wires wire))
 
--- the frame that is taken: the second one, else the first
+-- the frame that is taken: the second one or the first
 abbrev pub taken_frame : ℕ → WiresOf → List ℕ
 taken_frame wire wires = if is_second wire wires then frame wires.frames wire 1 else frame wires.frames wire 0
 
--- one exchange less is to come
+-- the side with one exchange less to come
 abbrev pub less_to_swap : Side → Side
 less_to_swap side = record side { swap = side.swap - 1 }
 
--- the switch holds the frame that is taken
+-- the wires after a frame is taken from a wire, and the switch holds it
 abbrev pub held_from : ℕ → ℕ → WiresOf → WiresOf
 held_from wire hand wires =
     if is_second wire wires
@@ -129,119 +128,119 @@ held_from wire hand wires =
     }
     else record wires { frames = move_first wire hand wires.frames }
 
--- one copy less is to come
+-- the side with one copy less to come
 abbrev pub less_again : Side → Side
 less_again side = record side { again = side.again - 1 }
 
--- a copy of the frame that is taken was told
+-- whether a copy of the frame that is taken is still to come
 abbrev pub is_copied : ℕ → WiresOf → Bool
 is_copied wire wires = nat_lt 0 (side_at wires wire).again
 
--- the state into which it is put
+-- the wires that the copy is put into, with one copy less to come
 abbrev pub before_copy : ℕ → WiresOf → WiresOf
 before_copy wire wires = with_side wire (less_again (side_at wires wire)) wires
 
--- if a copy is told, a copy of the frame is put at the end of the wire
+-- the wires after a copy of the frame is put at the end of the wire, if a copy is still to come
 abbrev pub copied_from : ℕ → List ℕ → WiresOf → WiresOf
 copied_from wire bytes wires =
     if is_copied wire wires
     then put_into (far_place (side_at wires wire).far) wire bytes (before_copy wire wires)
     else wires
 
--- what becomes of the copy, if there is one
+-- the result for the copy, if there is one
 abbrev pub what_copy_becomes : ℕ → List ℕ → WiresOf → Option Put
 what_copy_becomes wire bytes wires =
     if is_copied wire wires
     then Some (what_becomes (far_place (side_at wires wire).far) wire bytes (before_copy wire wires))
     else None
 
--- a frame is taken from a wire into a hand, and then copied if that is told
+-- the wires after a frame is taken from a wire and held, and then copied if a copy is still to come
 abbrev pub take_from : ℕ → ℕ → WiresOf → WiresOf
 take_from wire hand wires = copied_from wire (taken_frame wire wires) (held_from wire hand wires)
 
--- how it was taken
+-- the result of taking a frame from a wire
 abbrev pub how_taken : ℕ → ℕ → WiresOf → Taken
 how_taken wire hand wires = record {
   second = is_second wire wires;
   copied = what_copy_becomes wire (taken_frame wire wires) (held_from wire hand wires);
 }
 
--- the frame that a switch holds is given up
+-- the wires after the frame that a switch holds is dropped
 abbrev pub release_from : ℕ → WiresOf → WiresOf
 release_from hand wires = record wires { frames = clear hand wires.frames }
 
--- one side of a link is up, or down
+-- the wires with one side of a link up or down
 abbrev pub with_up : Bool → ℕ → WiresOf → WiresOf
 with_up up at wires = with_side at (record (side_at wires at) { is_up = up }) wires
 
--- a link is up, or down, at both its ends
+-- the wires with a link up or down at both its ends
 abbrev pub link_set : Bool → Option Far → ℕ → WiresOf → WiresOf
 link_set up None at wires = with_up up at wires
 link_set up (Some (HostAt host)) at wires = with_up up at wires
 link_set up (Some (Switch switch port)) at wires = with_up up (place switch port) (with_up up at wires)
 
--- the frames of both wires of a link are dropped
+-- the wires without the frames on both wires of a link
 abbrev pub wires_cleared : Option Far → ℕ → WiresOf → WiresOf
 wires_cleared None at wires = wires
 wires_cleared (Some (HostAt host)) at wires = wires
 wires_cleared (Some (Switch switch port)) at wires =
     record wires { frames = clear (place switch port) (clear at wires.frames) }
 
--- how many frames are on both wires of a link
+-- the number of frames on both wires of a link
 abbrev pub on_both : Option Far → ℕ → WiresOf → ℕ
 on_both None at wires = 0
 on_both (Some (HostAt host)) at wires = 0
 on_both (Some (Switch switch port)) at wires =
     length (wire_at wires at) + length (wire_at wires (place switch port))
 
--- the link of a port goes down, and the frames of both its wires are dropped
+-- the wires after the link of a port goes down, and the frames of both its wires are dropped
 abbrev pub fail_at : ℕ → WiresOf → WiresOf
 fail_at at wires = wires_cleared (side_at wires at).far at (link_set false (side_at wires at).far at wires)
 
--- it goes up
+-- the wires after the link of a port goes up
 abbrev pub repair_at : ℕ → WiresOf → WiresOf
 repair_at at wires = link_set true (side_at wires at).far at wires
 
--- how many frames are dropped if it goes down
+-- the number of frames that are dropped if the link of a port goes down
 abbrev pub dropped_at : ℕ → WiresOf → ℕ
 dropped_at at wires = on_both (side_at wires at).far at wires
 
--- the told counts end at 2^32 - 1
+-- a count increased by `more`, up to 2^32 - 1
 abbrev pub more_told : ℕ → ℕ → ℕ
 more_told count more = min (count + more) (2 ^ 32 - 1)
 
--- so many more losses are told for a wire
+-- the wires with `more` losses added to those still to come on a wire
 abbrev pub lose_on : ℕ → ℕ → WiresOf → WiresOf
 lose_on wire more wires =
     with_side wire (record (side_at wires wire) { lose = more_told (side_at wires wire).lose more }) wires
 
--- so many more copies are told for a wire
+-- the wires with `more` copies added to those still to come on a wire
 abbrev pub again_on : ℕ → ℕ → WiresOf → WiresOf
 again_on wire more wires =
     with_side wire (record (side_at wires wire) { again = more_told (side_at wires wire).again more }) wires
 
--- so many more exchanges are told for a wire
+-- the wires with `more` exchanges added to those still to come on a wire
 abbrev pub swap_on : ℕ → ℕ → WiresOf → WiresOf
 swap_on wire more wires =
     with_side wire (record (side_at wires wire) { swap = more_told (side_at wires wire).swap more }) wires
 
--- The far ends of links are among the ports, and each port has its wire.
+-- the far ends of links are among the ports, and each port has its wire
 pub record IsSound (wires : WiresOf) : Type 0 where
   pub size : length wires.sides ≡ length wires.frames.queues
   pub far :
       (at : ℕ) → is_link (side_at wires at).far ≡ true → far_place (side_at wires at).far < length wires.sides
 
--- a link is at both its ends, and is up at both or down at both
+-- the port at index `other` has a link to that at index `at`, and their links are both up or both down
 pub record AreOne (wires : WiresOf) (at other : ℕ) : Type 0 where
   pub link : is_link (side_at wires other).far ≡ true
   pub back : far_place (side_at wires other).far ≡ at
   pub up : (side_at wires other).is_up ≡ (side_at wires at).is_up
 
--- each link is one
+-- the two ends of each link agree
 abbrev pub LinksAgree : WiresOf → Type 0
 LinksAgree wires =
     (at : ℕ) → is_link (side_at wires at).far ≡ true → AreOne wires at (far_place (side_at wires at).far)
 
--- what each port has at its far side is as before
+-- every port has the same at its far side in both states
 abbrev pub HaveSameFarEnds : WiresOf → WiresOf → Type 0
 HaveSameFarEnds old new = (at : ℕ) → (side_at new at).far ≡ (side_at old at).far

@@ -1,4 +1,5 @@
-//! Queues of frames: a region has the bytes, and queues the slips. A frame keeps its blocks when it changes queues.
+//! Queues of frames: a region has the bytes, and the queues have their slips. A frame that changes queues keeps its
+//! blocks.
 
 ghost use Rattle.std.specs.Prelude.{◌≡◌, ◌+◌, ◌<◌, ◌≤◌, [], length, replicate, IfOk, IfErr, OnOk, OnErr};
 ghost use Rattle.frame_region.specs.Sizes.{blocks_of};
@@ -9,7 +10,7 @@ ghost use Rattle.wire_set.specs.Frames.{move_second};
 ghost use Rattle.wire_set.specs.Frames.{occupied, put_frame};
 
 use crate::queue::Queues;
-use an_base::memory::OutOfMemory;
+use common_values::memory::OutOfMemory;
 use frame_region::buffer::FrameBuf;
 use frame_region::region::{NoRoom, Region};
 use std::alloc::Global;
@@ -33,7 +34,10 @@ impl Model for Frames {
 }
 
 impl Frames {
-    /// So many empty queues, and so many blocks, at most 1,048,576, all of them free.
+    /// Creates `queues` empty queues, with `blocks` free blocks, at most 1,048,576.
+    ///
+    /// # Errors
+    /// `OutOfMemory` if an allocation fails.
     pub fn new(alloc: Global, queues: usize, blocks: u32) -> Result<Self, OutOfMemory>
         requires { blocks ≤ MOST_BLOCKS }
         ensures { IfOk result (λ frames. frames
@@ -45,7 +49,7 @@ impl Frames {
         })
     }
 
-    /// How many blocks are free: those that no frame occupies.
+    /// Returns the number of free blocks: those that no frame occupies.
     pub fn free(&self) -> u32
         ensures free { result ≡ self.now.free }
         ensures law { self.now.free + occupied self.now ≡ self.now.limit }
@@ -53,7 +57,7 @@ impl Frames {
         self.region.free_blocks()
     }
 
-    /// How many frames a queue has.
+    /// Returns the number of frames in queue `q`.
     pub fn len(&self, q: usize) -> u32
         requires { q < length self.now.queues }
         ensures len { result ≡ length (frames_at self.now q) }
@@ -62,8 +66,10 @@ impl Frames {
         self.queues.len(q)
     }
 
-    /// Puts a frame at the end of a queue. There is no room exactly if fewer blocks are free than it
-    /// needs, and then nothing changes.
+    /// Appends a frame, of 1 to 22,591 `bytes`, to queue `q`.
+    ///
+    /// # Errors
+    /// `NoRoom` if and only if fewer blocks are free than the frame needs. Nothing changes then.
     pub fn put(&mut self, q: usize, bytes: &[u8]) -> Result<(), NoRoom>
         requires q { q < length self.old.queues }
         requires least { 1 ≤ length bytes.now }
@@ -84,7 +90,9 @@ impl Frames {
         }
     }
 
-    /// Moves the first frame of a queue to one that is empty, and sets the buffer to its bytes.
+    /// Moves the first frame of queue `from` to queue `to`, and copies its bytes to `out`.
+    ///
+    /// There must be such a frame, and queue `to` must be empty.
     pub fn move_first(&mut self, from: usize, to: usize, out: &mut FrameBuf)
         requires some { 1 ≤ length (frames_at self.old from) }
         requires to { to < length self.old.queues }
@@ -98,7 +106,9 @@ impl Frames {
         self.queues.push(to, slip);
     }
 
-    /// Moves the second frame of a queue to one that is empty, and sets the buffer to its bytes.
+    /// Moves the second frame of queue `from` to queue `to`, and copies its bytes to `out`.
+    ///
+    /// There must be such a frame, and queue `to` must be empty.
     pub fn move_second(&mut self, from: usize, to: usize, out: &mut FrameBuf)
         requires two { 2 ≤ length (frames_at self.old from) }
         requires to { to < length self.old.queues }
@@ -112,7 +122,7 @@ impl Frames {
         self.queues.push(to, slip);
     }
 
-    /// Gives up the first frame of a queue, and frees its blocks.
+    /// Drops the first frame of queue `q`, which must have one, and frees its blocks.
     pub fn drop_first(&mut self, q: usize)
         requires { 1 ≤ length (frames_at self.old q) }
         ensures { self.new ≡ drop_first q self.old }
@@ -121,7 +131,7 @@ impl Frames {
         self.region.free(slip);
     }
 
-    /// Gives up all frames of a queue, and frees their blocks.
+    /// Drops all frames of queue `q`, and frees their blocks.
     pub fn clear(&mut self, q: usize)
         requires { q < length self.old.queues }
         ensures { self.new ≡ clear q self.old }

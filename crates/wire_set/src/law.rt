@@ -1,4 +1,4 @@
-//! What links and blocks keep, whatever happens to the wires. No function here has code.
+//! Theorems about links and blocks, for all calls. No function here has code.
 
 ghost use Rattle.std.specs.Prelude.{◌≡◌, ◌<◌, ◌≤◌, ℕ, List, length};
 ghost use Rattle.net_graph.specs.Wires.{Wires, IsWired, far_at};
@@ -7,15 +7,15 @@ ghost use Rattle.wire_set.specs.WireState.{HaveSameFarEnds, LinksAgree, WiresOf,
 ghost use Rattle.wire_set.specs.WireState.{place, put_into, release_from, repair_at, side_at, side_of, start};
 ghost use Rattle.wire_set.specs.WireState.{swap_on, take_from, wire_at};
 
-/// At the beginning each port has at its far side what the wiring has there, and its link, if it has
-/// one, is up.
+/// At the start, each port has at its far side what the wiring has there, and its link, if it has one, is up.
 pub fn ports_are_those_of_the_wiring()
     ensures { (wires : Wires) (blocks s p : ℕ) → s < length wires.switches → p < 13
         → side_at (start wires blocks) (place s p) ≡ side_of (far_at wires s p) }
 {}
 
-/// A link is one thing: each of its ports is at the far side of the other, and it is up at both or
-/// down at both. So it is at the beginning, and so it stays with whatever happens.
+/// The two ends of a link agree: each is at the far side of the other, and they are both up or both down.
+///
+/// This holds at the start, and every call preserves it.
 pub fn a_link_is_up_at_both_its_ends()
     ensures start { (wires : Wires) (blocks : ℕ) → IsWired wires → LinksAgree (start wires blocks) }
     ensures put { (state : WiresOf) (from wire : ℕ) (bytes : List ℕ)
@@ -29,7 +29,7 @@ pub fn a_link_is_up_at_both_its_ends()
     ensures swap { (state : WiresOf) (wire n : ℕ) → LinksAgree state → LinksAgree (swap_on wire n state) }
 {}
 
-/// No call changes what is at the far side of a port: it is always what the wiring has there.
+/// No call changes what is at the far side of a port; it is always what the wiring has there.
 pub fn no_call_changes_a_far_end()
     ensures put { (state : WiresOf) (from wire : ℕ) (bytes : List ℕ)
         → HaveSameFarEnds state (put_into from wire bytes state) }
@@ -42,8 +42,9 @@ pub fn no_call_changes_a_far_end()
     ensures swap { (state : WiresOf) (wire n : ℕ) → HaveSameFarEnds state (swap_on wire n state) }
 {}
 
-/// Free blocks and those that frames on the wires and in hands occupy are all blocks that there are:
-/// so it is at the beginning, and so it stays with whatever happens.
+/// The free blocks, and those of the frames on the wires and held by switches, add up to all blocks.
+///
+/// This holds at the start, and every call preserves it.
 pub fn free_and_occupied_blocks_add_up()
     ensures start { (wires : Wires) (blocks : ℕ) → BlocksAddUp (start wires blocks).frames }
     ensures put { (state : WiresOf) (from wire : ℕ) (bytes : List ℕ) → wire < length state.frames.queues

@@ -1,4 +1,4 @@
-//! Queues of slips. A slip is in one queue at most, so all queues are chains in one list of places.
+//! Queues of slips. A slip is in at most one queue, so all queues are chains in one list of slots.
 
 ghost use Rattle.std.specs.Prelude.{◌≡◌, ◌≢◌, ◌+◌, ◌-◌, ◌<◌, ◌≤◌, ◌++◌, ◌∷◌, [], ℕ, length, take, drop};
 ghost use Rattle.std.specs.Prelude.{replicate};
@@ -6,12 +6,12 @@ ghost use Rattle.std.specs.Prelude.{None, Some, IfOk, slice_index_or, vec_capaci
 ghost use Rattle.frame_region.specs.declared.region.TheConstants.{MOST_BLOCKS};
 ghost use Rattle.wire_set.specs.Queues.{QueuesOf, IsApart, IsNew, empty, queue_at, slot, with_queue};
 
-use an_base::memory::OutOfMemory;
+use common_values::memory::OutOfMemory;
 use frame_region::region::Slip;
 use std::alloc::Global;
 use std::marker::Model;
 
-// The first and the last slip of a queue, by their numbers, and how many there are.
+// The first and the last slip of a queue, by number, and the length of the queue.
 #[derive(Clone, Copy)]
 struct Queue {
     first: u32,
@@ -19,9 +19,10 @@ struct Queue {
     count: u32,
 }
 
-/// Queues of slips that share their places: the place of a slip is that of its number. The memory for
-/// the places is taken at once; a place is there from when a slip of its number, or a higher one, is
-/// first put in a queue.
+/// Queues of slips that share their slots: the slot of a slip is at the slip's number.
+///
+/// The memory for the slots is allocated at once. A slot is first used when a slip with its number, or a
+/// higher one, is first put in a queue.
 #[derive(Drop)]
 pub struct Queues {
     slips: Vec<Option<Slip>>,
@@ -61,7 +62,7 @@ fn appended(queue: Queue, number: u32) -> Queue
     }
 }
 
-// The place after which a slip follows: the last one, or its own in an empty queue.
+// The slip that slip `number` follows in the queue: the last one, or itself if the queue is empty.
 fn place_before(queue: Queue, number: u32) -> u32
     ensures empty { queue.count ≡ 0 → result ≡ number }
     ensures some { 1 ≤ queue.count → result ≡ queue.last }
@@ -102,7 +103,7 @@ fn empty_queues(alloc: Global, queues: usize) -> Result<Vec<Queue>, OutOfMemory>
     Ok(all)
 }
 
-// All places up to that of a number are there then, without taking memory.
+// Makes the lists long enough for slot `number`, without allocating.
 fn reach(slips: &mut Vec<Option<Slip>>, next: &mut Vec<u32>, number: u32)
     requires size { length slips.old.items ≡ length next.old.items }
     requires slips { number < vec_capacity slips.old }
@@ -122,7 +123,10 @@ fn reach(slips: &mut Vec<Option<Slip>>, next: &mut Vec<u32>, number: u32)
 }
 
 impl Queues {
-    /// So many empty queues with so many places, at most 1,048,576.
+    /// Creates `queues` empty queues with `places` slots, at most 1,048,576.
+    ///
+    /// # Errors
+    /// `OutOfMemory` if an allocation fails.
     pub fn new(alloc: Global, queues: usize, places: u32) -> Result<Self, OutOfMemory>
         requires { places ≤ MOST_BLOCKS }
         ensures { IfOk result (λ all. all ≡ record { queues = replicate queues []; places = places }) }
@@ -135,7 +139,7 @@ impl Queues {
         })
     }
 
-    /// How many slips a queue has, at most as many as there are places.
+    /// Returns the number of slips in queue `q`, at most 1,048,576.
     pub fn len(&self, q: usize) -> u32
         requires { q < length self.now.queues }
         ensures len { result ≡ length (queue_at self.now q) }
@@ -145,7 +149,7 @@ impl Queues {
         self.queues[q].count
     }
 
-    /// Puts a slip that is in no queue at the end of one.
+    /// Appends a slip, which must be in no queue, to queue `q`.
     pub fn push(&mut self, q: usize, slip: Slip)
         requires q { q < length self.old.queues }
         requires place { slip < self.old.places }
@@ -161,7 +165,7 @@ impl Queues {
         self.queues[q] = appended(queue, number);
     }
 
-    /// Takes the first slip of a queue.
+    /// Removes and returns the first slip of queue `q`, which must have one.
     pub fn pop(&mut self, q: usize) -> Slip
         requires { 1 ≤ length (queue_at self.old q) }
         ensures slip { result ≡ slot self.old q 0 }
@@ -179,7 +183,7 @@ impl Queues {
         slip.unwrap()
     }
 
-    /// Takes the second slip of a queue.
+    /// Removes and returns the second slip of queue `q`, which must have two.
     pub fn pop_second(&mut self, q: usize) -> Slip
         requires { 2 ≤ length (queue_at self.old q) }
         ensures slip { result ≡ slot self.old q 1 }

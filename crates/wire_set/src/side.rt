@@ -1,4 +1,4 @@
-//! One port and the wire into it, and what a wire answers if a frame is put on it or taken.
+//! One port and the wire into it, and the result of putting a frame on a wire or taking one from it.
 
 ghost use Rattle.std.specs.Prelude.{◌≡◌};
 ghost use Rattle.wire_set.specs.WireState.{is_link};
@@ -12,52 +12,52 @@ pub struct Side {
     pub far: Option<Far>,
     /// Whether its link is up.
     pub is_up: bool,
-    /// How many frames put on the wire are to be lost.
+    /// The number of frames put on the wire that are still to be lost.
     pub lose: u32,
-    /// How many frames taken from the wire are to be copied.
+    /// The number of frames taken from the wire that are still to be copied.
     pub again: u32,
-    /// How many takes are to give the second frame.
+    /// The number of times that the second frame is still to be taken instead of the first.
     pub swap: u32,
 }
 
-/// Why a frame is lost.
+/// The reason why a frame is lost.
 #[derive(Clone, Copy, PartialEq, Eq)]
 pub enum Loss {
     /// The link is down.
     Down,
-    /// The loss was told; there is one less to come.
+    /// The script asked for a loss; one less is still to come.
     Told,
     /// Too few blocks are free.
     NoRoom {
-        /// How many the frame needs, 1 to 353.
+        /// The number of blocks that the frame needs, 1 to 353.
         need: u32,
-        /// How many are free.
+        /// The number of free blocks.
         free: u32,
     },
 }
 
-/// What becomes of a frame that is put on a wire.
+/// The result of putting a frame on a wire.
 #[derive(Clone, Copy, PartialEq, Eq)]
 pub enum Put {
     /// It is the last one on the wire.
     Kept,
     /// It is lost.
     Lost {
-        /// The first cause that holds.
+        /// The first reason that holds.
         cause: Loss,
     },
 }
 
-/// How a frame was taken from a wire.
+/// The result of taking a frame from a wire.
 #[derive(Clone, Copy, PartialEq, Eq)]
 pub struct Taken {
     /// Whether it was the second frame of the wire.
     pub second: bool,
-    /// What became of its copy; none exactly if no copy was told.
+    /// The result for its copy; `None` if and only if no copy was asked for.
     pub copied: Option<Put>,
 }
 
-/// Whether there is a link of two switch ports.
+/// Reports whether there is a link of two switch ports.
 pub fn is_link(far: Option<Far>) -> bool
     ensures { result ≡ is_link far }
 {

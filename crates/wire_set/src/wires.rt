@@ -1,4 +1,4 @@
-//! The wires. Each is kept at the port into which it leads, and what a switch has in hand at its port 0.
+//! The wires. Each is stored at the port it leads to, and the frame that a switch holds at the switch's port 0.
 
 ghost use Rattle.std.specs.Prelude.{◌≡◌, ◌+◌, ◌*◌, ◌<◌, ◌≤◌, ◌/◌, ◌%◌, ℕ, true, [], length, map, IfOk};
 ghost use Rattle.std.specs.Prelude.{◌^◌, ◌-◌};
@@ -19,9 +19,9 @@ ghost use Rattle.wire_set.specs.WireState.{wire_at, wire_out};
 
 use crate::frames::Frames;
 use crate::side::{Loss, Put, Side, Taken, is_link};
-use an_base::memory::OutOfMemory;
 use an_base::place::Place;
 use an_base::port::Port;
+use common_values::memory::OutOfMemory;
 use frame_region::buffer::FrameBuf;
 use frame_region::region::NoRoom;
 use net_graph::wiring::{Far, Wiring};
@@ -54,17 +54,17 @@ const UNUSED: Side = Side {
     swap: 0,
 };
 
-// How many places a switch has: twelve ports, and port 0, whose queue is the frame that it holds.
+// The number of indices of a switch: twelve ports, and port 0, whose queue has the frame that the switch holds.
 const PLACES: usize = 13;
 
-// The place of a port of a switch.
+// The index of a port of a switch.
 fn place_of(s: Place, port: Port) -> usize
     ensures { result ≡ place s port }
 {
     PLACES * usize::from(s) + usize::from(port)
 }
 
-// The place of the port at the other end of a link.
+// The index of the port at the other end of a link.
 fn far_place(far: Option<Far>) -> usize
     ensures { result ≡ far_place far }
 {
@@ -99,8 +99,12 @@ fn sides_of(alloc: Global, wiring: &Wiring) -> Result<Vec<Side>, OutOfMemory>
 }
 
 impl WireSet {
-    /// The wires of a wiring, with so many blocks for their frames, at most 1,048,576: all links are up,
-    /// and nothing is on the wires.
+    /// Creates the wires of a wiring, with `blocks` blocks for their frames, at most 1,048,576.
+    ///
+    /// All links are up, and the wires are empty.
+    ///
+    /// # Errors
+    /// `OutOfMemory` if an allocation fails.
     pub fn begin(alloc: Global, wiring: &Wiring, blocks: u32) -> Result<Self, OutOfMemory>
         requires { blocks ≤ MOST_BLOCKS }
         ensures { IfOk result (λ wires. wires ≡ start wiring.now blocks) }
@@ -110,9 +114,10 @@ impl WireSet {
         Ok(WireSet { sides, frames })
     }
 
-    /// Puts a frame, 1 to 22,591 bytes, on the wire out of a switch by a port that has a link of two
-    /// switch ports, without taking memory. It is lost by the first cause that holds: the link is down; a
-    /// loss was told, and one less is then to come; too few blocks are free.
+    /// Puts a frame, of 1 to 22,591 `bytes`, on the wire out of switch `s` at `port`, without allocating.
+    ///
+    /// The port must have a link of two switch ports. The frame is lost for the first reason that holds: the
+    /// link is down; a loss is still to come, of which there is then one less; or too few blocks are free.
     pub fn put(&mut self, s: Place, port: Port, bytes: &[u8]) -> Put
         requires link { HasLink self.old s port }
         requires least { 1 ≤ length bytes.now }
@@ -125,10 +130,13 @@ impl WireSet {
         self.put_into(here, wire, bytes)
     }
 
-    /// Takes a frame from the wire into a switch at a port that has a link of two switch ports, and sets
-    /// the buffer to its bytes, without taking memory. It is the second frame if an exchange was told
-    /// and there are two, else the first. The switch, which held none, holds it with its blocks until
-    /// `release`. Then, if a copy was told, one is put at the wire's end.
+    /// Takes a frame from the wire into switch `s` at `port`, and copies its bytes to `out`, without
+    /// allocating.
+    ///
+    /// It is the second frame if an exchange is still to come and there are two, and the first otherwise. The
+    /// switch holds the frame and its blocks until `release`. If a copy is still to come, it is then put at
+    /// the end of the wire. The port must have a link of two switch ports, the wire a frame, and the switch
+    /// must hold none.
     pub fn take(&mut self, s: Place, port: Port, out: &mut FrameBuf) -> Taken
         requires link { HasLink self.old s port }
         requires some { 1 ≤ length (wire_at self.old (place s port)) }
@@ -143,8 +151,7 @@ impl WireSet {
         Taken { second, copied }
     }
 
-    /// Frees the blocks of the frame that a switch holds, which it then holds no longer, without taking
-    /// memory.
+    /// Drops the frame that switch `s` holds, which must be there, and frees its blocks, without allocating.
     pub fn release(&mut self, s: Place)
         requires { 1 ≤ length (hand_of self.old s) }
         ensures { self.new ≡ release_from (place s 0) self.old }
@@ -152,8 +159,9 @@ impl WireSet {
         self.frames.clear(place_of(s, Port(0)));
     }
 
-    /// The link of a port, which has one or a host, goes down, and the frames of its two wires are
-    /// dropped; it answers how many they were. It takes no memory.
+    /// Takes the link of a port down, drops the frames of its two wires, and returns their number.
+    ///
+    /// The port must have a link or a host. Does not allocate.
     pub fn fail(&mut self, s: Place, port: Port) -> u32
         requires { IsUsed self.old s port }
         ensures failed { self.new ≡ fail_at (place s port) self.old }
@@ -168,7 +176,7 @@ impl WireSet {
         }
     }
 
-    /// The link of a port, which has one or a host, goes up, without taking memory.
+    /// Takes the link of a port up, without allocating. The port must have a link or a host.
     pub fn repair(&mut self, s: Place, port: Port)
         requires { IsUsed self.old s port }
         ensures { self.new ≡ repair_at (place s port) self.old }
@@ -176,8 +184,10 @@ impl WireSet {
         self.set_link(place_of(s, port), true);
     }
 
-    /// The side of a port, 0 to 12: what is at its far side, whether its link is up, and what is told of the wire
-    /// into it. It answers for all values, for a port above 12 of the place 13 s + port.
+    /// Returns the side of `port`, 0 to 12: what is at its far side, whether its link is up, and the counts of the wire
+    /// into it.
+    ///
+    /// It returns a value for all arguments; for a port above 12, that at index 13 s + port.
     pub fn side(&self, s: Place, port: Port) -> Side
         ensures { result ≡ side_at self.now (place s port) }
     {
@@ -187,7 +197,7 @@ impl WireSet {
         }
     }
 
-    /// Whether the link of a used port, to another port or to a host, is up.
+    /// Reports whether the link of a port to another port or to a host is up. The port must have one of them.
     pub fn is_up(&self, s: Place, port: Port) -> bool
         requires { IsUsed self.now s port }
         ensures { result ≡ (side_at self.now (place s port)).is_up }
@@ -195,8 +205,9 @@ impl WireSet {
         self.sides[place_of(s, port)].is_up
     }
 
-    /// So many more losses are told for the wire out of a switch by a port that has a link of two switch
-    /// ports; the count ends at 2^32 - 1.
+    /// Adds `n` losses to those still to come on the wire out of switch `s` at `port`, up to 2^32 - 1.
+    ///
+    /// The port must have a link of two switch ports.
     pub fn lose(&mut self, s: Place, port: Port, n: u32)
         requires { HasLink self.old s port }
         ensures { self.new ≡ lose_on (wire_out self.old s port) n self.old }
@@ -206,8 +217,9 @@ impl WireSet {
         side.lose = side.lose.saturating_add(n);
     }
 
-    /// So many more copies are told for the wire out of a switch by a port that has a link of two switch
-    /// ports; the count ends at 2^32 - 1.
+    /// Adds `n` copies to those still to come on the wire out of switch `s` at `port`, up to 2^32 - 1.
+    ///
+    /// The port must have a link of two switch ports.
     pub fn again(&mut self, s: Place, port: Port, n: u32)
         requires { HasLink self.old s port }
         ensures { self.new ≡ again_on (wire_out self.old s port) n self.old }
@@ -217,8 +229,9 @@ impl WireSet {
         side.again = side.again.saturating_add(n);
     }
 
-    /// So many more exchanges are told for the wire out of a switch by a port that has a link of two
-    /// switch ports; the count ends at 2^32 - 1.
+    /// Adds `n` exchanges to those still to come on the wire out of switch `s` at `port`, up to 2^32 - 1.
+    ///
+    /// The port must have a link of two switch ports.
     pub fn swap(&mut self, s: Place, port: Port, n: u32)
         requires { HasLink self.old s port }
         ensures { self.new ≡ swap_on (wire_out self.old s port) n self.old }
@@ -228,20 +241,22 @@ impl WireSet {
         side.swap = side.swap.saturating_add(n);
     }
 
-    /// Whether a port of a switch, 0 to 12, has a link of two switch ports, and the wire into it a frame. It answers
-    /// for all values, for a port above 12 of the place 13 s + port.
+    /// Reports whether `port`, 0 to 12, has a link of two switch ports and the wire into it a frame.
+    ///
+    /// It returns a value for all arguments; for a port above 12, that at index 13 s + port.
     pub fn has_frame(&self, s: Place, port: Port) -> bool
         ensures { result ≡ has_frame_on self.now (place s port) }
     {
         let wire = place_of(s, port);
         match self.sides.get(wire) {
-            // Most wires have none, so that is looked at first.
+            // Most wires are empty, so that is checked first.
             Some(side) => self.frames.len(wire) > 0 && is_link(side.far),
             None => false,
         }
     }
 
-    /// How many frames are on the wire into a switch at a port that has a link of two switch ports.
+    /// Returns the number of frames on the wire into switch `s` at `port`, which must have a link of two switch
+    /// ports.
     pub fn len(&self, s: Place, port: Port) -> u32
         requires { HasLink self.now s port }
         ensures { result ≡ length (wire_at self.now (place s port)) }
@@ -249,7 +264,7 @@ impl WireSet {
         self.frames.len(place_of(s, port))
     }
 
-    /// How many blocks are free: those that no frame on a wire or held by a switch occupies.
+    /// Returns the number of free blocks: those of no frame on a wire or held by a switch.
     pub fn free(&self) -> u32
         ensures free { result ≡ self.now.frames.free }
         ensures law { self.now.frames.free + occupied self.now.frames ≡ self.now.frames.limit }
@@ -281,7 +296,7 @@ impl WireSet {
         }
     }
 
-    // Moves a frame from a wire to a hand that is empty, and answers whether it was the second one.
+    // Moves a frame from a wire to a switch that holds none, and returns whether it was the second one.
     fn hold(&mut self, wire: usize, hand: usize, out: &mut FrameBuf) -> bool
         requires hand { hand < length self.old.sides }
         requires some { 1 ≤ length (wire_at self.old wire) }
@@ -300,7 +315,7 @@ impl WireSet {
         true
     }
 
-    // Puts a copy of a frame that was taken at the end of its wire, if one was told.
+    // Puts a copy of a frame that was taken at the end of its wire, if a copy is still to come.
     fn copy(&mut self, wire: usize, bytes: &[u8]) -> Option<Put>
         requires link { is_link (side_at self.old wire).far ≡ true }
         requires least { 1 ≤ length bytes.now }
@@ -331,7 +346,7 @@ impl WireSet {
         }
     }
 
-    // Drops the frames of two wires, and answers how many they were.
+    // Drops the frames of two wires, and returns their number.
     fn drop_frames(&mut self, here: usize, far: usize) -> u32
         requires here { here < length self.old.sides }
         requires far { far < length self.old.sides }

@@ -4,7 +4,7 @@ use Rattle.net_script.specs.Scripts.{IsScript, ScriptOf}
 use Rattle.expect_text.specs.Expect.{IsExpectOf, Part, all_rows}
 use Rattle.switch_numbering.specs.Numbering.{numbering}
 use Rattle.dep_check.specs.Channels.{far_at, LeadsTo}
-use Rattle.channel_graph.specs.Cycles.{HasNoCycle}
+use Rattle.common_graph.specs.Cycles.{HasNoCycle}
 use Rattle.check_text.proofs.ArrivalLaws.{following_arrives, following_ends}
 use Rattle.expect_text.proofs.PartLemmas.{IsPart, are_parts}
 use Rattle.check_text.proofs.PartRows.{part_rows}

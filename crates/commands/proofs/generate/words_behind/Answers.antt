@@ -1,6 +1,6 @@
 use Rattle.std.proofs.Common.{◌∙◌, ap, arith, List, ℕ, eqb}
 use Rattle.std.specs.Cmp.Lexicographic.{pointwise}
-use Rattle.answering.proofs.WordLemmas.{three_words}
+use Rattle.autonet_call.proofs.WordLemmas.{three_words}
 use Rattle.commands.proofs.generate.words_behind.Goals as goal
 
 pub returns-then-eq : goal.returns-then-eq

@@ -1,6 +1,6 @@
-use Rattle.answering.specs.Answer.{input_limit}
-use Rattle.answering.specs.Scripted.{refuses_script}
-use Rattle.answering.proofs.StopLemmas.{unread_stops}
+use Rattle.autonet_call.specs.Answer.{input_limit}
+use Rattle.autonet_call.specs.Scripted.{refuses_script}
+use Rattle.autonet_call.proofs.StopLemmas.{unread_stops}
 use Rattle.commands.proofs.run.found.Goals as goal
 
 pub returns-in_err-bytes-clause-stopped : goal.returns-in_err-bytes-clause-stopped

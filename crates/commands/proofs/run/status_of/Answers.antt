@@ -1,5 +1,5 @@
 use Rattle.std.proofs.Common.{refl}
-use Rattle.answering.specs.Answer.{stopped}
+use Rattle.autonet_call.specs.Answer.{stopped}
 use Rattle.commands.proofs.run.status_of.Goals as goal
 
 pub returns-in-Err : goal.returns-in-Err

@@ -1,7 +1,7 @@
 use Rattle.std.proofs.Common.{◌≡◌, Option, None}
 use Rattle.dep_check.specs.declared.channel.Channel.{Channel}
 use Rattle.dep_check.specs.Channels.{far_at, channel_cmp}
-use Rattle.channel_graph.specs.Cycles.{IsLeastCycle}
+use Rattle.common_graph.specs.Cycles.{IsLeastCycle}
 use Rattle.dep_check.specs.Tables.{IsSpot, level_at}
 use Rattle.dep_check.specs.Search.{AreSteps, IsLinked, Step}
 use Rattle.dep_check.proofs.CheckLemmas.{some_cycle, least_at, no_cycle_at, ranks_at}

@@ -1,7 +1,7 @@
 use Rattle.std.proofs.Common.{◌∙◌, sym, subst, arith, inl, inr, None}
 use Rattle.std.proofs.lemmas.Bool.{cases_eq}
 use Rattle.dep_check.specs.declared.channel.Channel.{Channel}
-use Rattle.channel_graph.specs.Cycles.{IsCycle}
+use Rattle.common_graph.specs.Cycles.{IsCycle}
 use Rattle.dep_check.specs.Tables.{place_of}
 use Rattle.dep_check.specs.Search.{Step, LeastAfter}
 use Rattle.dep_check.proofs.SpotLemmas.{one_spot, place_low}

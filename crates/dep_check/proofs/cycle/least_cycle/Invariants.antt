@@ -1,6 +1,6 @@
 use Rattle.std.proofs.Common.{◌<◌, List}
 use Rattle.dep_check.specs.declared.channel.Channel.{Channel}
-use Rattle.channel_graph.specs.Cycles.{IsCycle}
+use Rattle.common_graph.specs.Cycles.{IsCycle}
 use Rattle.dep_check.specs.Tables.{IsSpot, place_of}
 use Rattle.dep_check.specs.Search.{Step}
 use Rattle.dep_check.proofs.cycle.least_cycle.Given as goal

@@ -3,7 +3,7 @@ use Rattle.switch_numbering.proofs.Differing.{length-numbering}
 use Rattle.std.specs.List.{zip}
 use Rattle.std.proofs.lemmas.Result.{on_ok_weaker}
 use Rattle.an_base.specs.Values.{EntryOf}
-use Rattle.text_lines.specs.Lines.{line_text}
+use Rattle.common_lines.specs.Lines.{line_text}
 use Rattle.row_text.specs.TableForms.{table_words}
 use Rattle.expect_text.specs.Expect.{component_form, member_form, number_form}
 use Rattle.row_text.specs.TableForms.{table_text}

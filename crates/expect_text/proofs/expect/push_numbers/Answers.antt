@@ -1,5 +1,5 @@
 use Rattle.std.proofs.Common.{arith}
-use Rattle.text_lines.proofs.FormTexts.{pairs_more}
+use Rattle.common_lines.proofs.FormTexts.{pairs_more}
 use Rattle.row_text.specs.TableForms.{table_words}
 use Rattle.expect_text.specs.Expect.{number_form}
 use Rattle.expect_text.proofs.expect.push_numbers.Goals as goal

@@ -3,8 +3,8 @@
 use Rattle.std.proofs.Common.{◌≡◌, take}
 use Rattle.std.specs.List.{flat_map}
 use Rattle.std.specs.Prelude.{option_to_list}
-use Rattle.fabric_state.specs.Effects.{all_put_out}
-use Rattle.fabric_state.specs.Lines.{lost_lines}
+use Rattle.net_state.specs.Effects.{all_put_out}
+use Rattle.net_state.specs.Lines.{lost_lines}
 use Rattle.fabric_book.proofs.book.put_all.Given as goal
 
 abbrev pub invariant-frames : goal.invariant-frames

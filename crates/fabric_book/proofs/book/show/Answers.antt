@@ -1,7 +1,7 @@
 -- After a frame the port by which it came alone can be shown as another.
 
 use Rattle.std.proofs.Common.{subst}
-use Rattle.fabric_state.specs.Fits.{IsHandPort}
+use Rattle.net_state.specs.Fits.{IsHandPort}
 use Rattle.fabric_book.proofs.book.show.Goals as goal
 
 pub show_port-requires-clause-least : goal.show_port-requires-clause-least

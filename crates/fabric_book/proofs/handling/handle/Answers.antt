@@ -7,9 +7,9 @@ use Rattle.port_monitor.specs.Histories.{externals}
 use Rattle.switch_core.specs.Bytes.{OutOf}
 use Rattle.switch_core.specs.Kept.{StandsFor}
 use Rattle.switch_core.specs.Switch.{SwitchOf, finish_of, note_of}
-use Rattle.fabric_world.specs.Lines.{finish_lines, join_lines, no_frame_lines, port_line, no_epoch_lines}
-use Rattle.fabric_world.specs.World.{handles}
-use Rattle.fabric_state.specs.declared.line.Line.{Line}
+use Rattle.net_world.specs.Lines.{finish_lines, join_lines, no_frame_lines, port_line, no_epoch_lines}
+use Rattle.net_world.specs.World.{handles}
+use Rattle.net_state.specs.declared.line.Line.{Line}
 use Rattle.fabric_book.specs.Told.{noise_lines}
 use Rattle.fabric_book.proofs.HandLemmas.{copied_some}
 use Rattle.fabric_book.proofs.TellLemmas.{noise_is, told_all}

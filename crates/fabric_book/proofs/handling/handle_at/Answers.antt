@@ -4,11 +4,11 @@ use Rattle.std.proofs.Common.{◌≡◌, ◌∙◌, ◌++◌, ◌<◌, List, ap,
 use Rattle.std.proofs.lemmas.Result.{on_ok_weaker}
 use Rattle.std.specs.List.{flat_map}
 use Rattle.std.specs.Prelude.{Option, option_to_list}
-use Rattle.fabric_state.specs.declared.line.Line.{Line}
+use Rattle.net_state.specs.declared.line.Line.{Line}
 use Rattle.switch_core.specs.Bytes.{OutOf}
-use Rattle.fabric_state.specs.Fabric.{FabricOf, StationOf, count, is_empty, station}
-use Rattle.fabric_state.specs.Fits.{IsHandPort}
-use Rattle.fabric_world.specs.Histories.{HistoryOf, fabric_of, world_of}
+use Rattle.net_state.specs.Fabric.{FabricOf, StationOf, count, is_empty, station}
+use Rattle.net_state.specs.Fits.{IsHandPort}
+use Rattle.net_world.specs.Histories.{HistoryOf, fabric_of, world_of}
 use Rattle.fabric_book.specs.Nets.{IsSwitchKept}
 use Rattle.fabric_book.proofs.HandLemmas.{done_is, hand_below, hand_filled, hand_full, hand_port, hand_within, hand_working, hand_works, handled_told, stands_is}
 use Rattle.fabric_book.proofs.OwnLemmas.{handle_own}

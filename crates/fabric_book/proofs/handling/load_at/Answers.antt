@@ -4,8 +4,8 @@ use Rattle.std.proofs.lemmas.Result.{on_ok_weaker}
 use Rattle.std.proofs.Common.{◌≡◌, ◌∙◌, ◌++◌, ◌∷◌, ℕ, List, [], ap, subst, sym}
 use Rattle.switch_core.specs.Kept.{StandsFor}
 use Rattle.switch_core.specs.Steps.{loaded}
-use Rattle.fabric_world.specs.Histories.{HistoryOf, world_of}
-use Rattle.fabric_state.specs.declared.line.Line.{Line}
+use Rattle.net_world.specs.Histories.{HistoryOf, world_of}
+use Rattle.net_state.specs.declared.line.Line.{Line}
 use Rattle.fabric_book.specs.Nets.{IsSwitchKept}
 use Rattle.fabric_book.proofs.HandLemmas.{due_here, due_within, number_is, to_load}
 use Rattle.fabric_book.proofs.OwnLemmas.{load_own}

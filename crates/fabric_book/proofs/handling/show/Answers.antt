@@ -5,11 +5,11 @@ use Rattle.std.proofs.lemmas.Result.{on_ok_weaker}
 use Rattle.an_base.specs.Ports.{NoteOf}
 use Rattle.switch_core.specs.Kept.{StandsFor}
 use Rattle.switch_core.specs.Switch.{CameBy, SwitchOf, note_of}
-use Rattle.fabric_state.specs.declared.hand.Hand.{Hand}
-use Rattle.fabric_state.specs.Fits.{IsHandPort}
-use Rattle.fabric_state.specs.PortStates.{state_code}
-use Rattle.fabric_world.specs.World.{handles}
-use Rattle.fabric_state.specs.declared.line.Line.TheVariants as line
+use Rattle.net_state.specs.declared.hand.Hand.{Hand}
+use Rattle.net_state.specs.Fits.{IsHandPort}
+use Rattle.net_state.specs.PortStates.{state_code}
+use Rattle.net_world.specs.World.{handles}
+use Rattle.net_state.specs.declared.line.Line.TheVariants as line
 use Rattle.fabric_book.specs.Told.{line_if}
 use Rattle.fabric_book.proofs.HandLemmas.{hand_came}
 use Rattle.fabric_book.proofs.TellLemmas.{port_told}

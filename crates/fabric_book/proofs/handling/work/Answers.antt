@@ -4,7 +4,7 @@ use Rattle.std.proofs.Common.{arith, false, subst, sym, true, ℕ}
 use Rattle.std.proofs.lemmas.Result.{on_ok_weaker}
 use Rattle.switch_core.specs.Kept.{Handles, StandsFor, Ticks}
 use Rattle.switch_core.specs.Switch.{SwitchOf}
-use Rattle.fabric_state.specs.declared.hand.Hand.{Hand}
+use Rattle.net_state.specs.declared.hand.Hand.{Hand}
 use Rattle.fabric_book.specs.Nets.{IsHandled}
 use Rattle.fabric_book.proofs.HandLemmas.{clock_handled, frame_handled}
 use Rattle.fabric_book.proofs.handling.work.Goals as goal

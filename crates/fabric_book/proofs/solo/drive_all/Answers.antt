@@ -2,7 +2,7 @@
 
 use Rattle.std.proofs.Common.{◌≡◌, ap, arith, subst}
 use Rattle.net_script.specs.Scripts.{ScriptOf}
-use Rattle.fabric_state.specs.declared.work.Drive.{Drive}
+use Rattle.net_state.specs.declared.work.Drive.{Drive}
 use Rattle.fabric_book.specs.Rounds.{told_of}
 use Rattle.fabric_book.proofs.DriverLemmas.{drive_tells}
 use Rattle.fabric_book.proofs.RoundLemmas.{HasDone, done_by, goes_same, goes_then}

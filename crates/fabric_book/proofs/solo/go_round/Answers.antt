@@ -3,7 +3,7 @@
 use Rattle.std.proofs.Common.{◌≡◌, ◌∙◌, ap, arith, subst, sym, refl}
 use Rattle.std.specs.Prelude.{Option}
 use Rattle.net_script.specs.Scripts.{ScriptOf}
-use Rattle.fabric_state.specs.declared.ending.Ending.{Ending}
+use Rattle.net_state.specs.declared.ending.Ending.{Ending}
 use Rattle.fabric_book.specs.Rounds.{HasDriven}
 use Rattle.fabric_book.proofs.RoundLemmas.{round_grows}
 use Rattle.fabric_book.proofs.solo.go_round.Goals as goal

@@ -3,7 +3,7 @@
 use Rattle.std.proofs.Common.{◌≡◌, ◌∙◌, List, ap, sym}
 use Rattle.an_base.specs.declared.event.Event.{Event}
 use Rattle.net_script.specs.Scripts.{ScriptOf}
-use Rattle.fabric_world.specs.World.{begun, world_after}
+use Rattle.net_world.specs.World.{begun, world_after}
 use Rattle.fabric_book.specs.Nets.{NetOf, driver_lines}
 use Rattle.fabric_book.specs.Rounds.{told_of}
 use Rattle.fabric_book.proofs.RoundLemmas.{first_turn, legal_by, solo_by}

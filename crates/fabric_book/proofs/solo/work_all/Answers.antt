@@ -2,7 +2,7 @@
 
 use Rattle.std.proofs.Common.{◌≡◌, ◌∙◌, ◌<◌, ap, arith, length, subst, sym}
 use Rattle.net_script.specs.Scripts.{ScriptOf}
-use Rattle.fabric_state.specs.Fabric.{count}
+use Rattle.net_state.specs.Fabric.{count}
 use Rattle.fabric_book.specs.Rounds.{AreIdleBefore, IsTurnOf}
 use Rattle.fabric_book.proofs.RoundLemmas.{goes_then, idle_more}
 use Rattle.fabric_book.proofs.WorldFacts.{world_script}

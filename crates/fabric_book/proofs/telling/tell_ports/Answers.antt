@@ -4,8 +4,8 @@ use Rattle.std.specs.Prelude.{◌==◌}
 use Rattle.std.proofs.Common.{◌≡◌, ◌∙◌, ◌++◌, ◌-◌, ℕ, ap, arith, refl, slice_get}
 use Rattle.std.specs.List.{flat_map, range_with_len}
 use Rattle.an_base.specs.Ports.{NoteOf}
-use Rattle.fabric_state.specs.PortStates.{state_code}
-use Rattle.fabric_world.specs.Lines.{port_line}
+use Rattle.net_state.specs.PortStates.{state_code}
+use Rattle.net_world.specs.Lines.{port_line}
 use Rattle.fabric_book.proofs.TellLemmas.{ports_more}
 use Rattle.fabric_book.proofs.telling.tell_ports.Goals as goal
 

@@ -2,7 +2,7 @@
 
 use Rattle.std.proofs.Common.{◌≡◌, ◌++◌, ◌-◌}
 use Rattle.std.specs.List.{flat_map, range_with_len}
-use Rattle.fabric_world.specs.Lines.{port_line}
+use Rattle.net_world.specs.Lines.{port_line}
 use Rattle.fabric_book.proofs.telling.tell_ports.Given as goal
 
 abbrev pub invariant-ports : goal.invariant-ports

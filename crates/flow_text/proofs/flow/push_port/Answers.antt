@@ -2,7 +2,7 @@ use Rattle.std.proofs.Common.{◌≡◌, ◌∙◌, ◌+◌, ◌++◌, ◌∷◌
 use Rattle.std.specs.Prelude.{codes}
 use Rattle.std.specs.Fmt.{decimal}
 use Rattle.std.proofs.lemmas.Fmt.{decimal_digit}
-use Rattle.text_lines.specs.Lines.{line_text}
+use Rattle.common_lines.specs.Lines.{line_text}
 use Rattle.flow_text.proofs.FlowTexts.{two_digits}
 use Rattle.flow_text.proofs.flow.push_port.Goals as goal
 

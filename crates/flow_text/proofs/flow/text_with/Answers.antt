@@ -5,7 +5,7 @@ use Rattle.net_graph.specs.Forest.{IsComponent}
 use Rattle.std.specs.Prelude.{count_by, filter}
 use Rattle.std.proofs.lemmas.List.Sums.{length-filter}
 use Rattle.std.specs.List.{flat_map}
-use Rattle.an_base.proofs.MemberLemmas.{Contains-image}
+use Rattle.common_values.proofs.MemberLemmas.{Contains-image}
 use Rattle.flow_text.specs.Sends.{is_entering, is_local, is_unjoined, numbers_in}
 use Rattle.flow_text.specs.declared.sent.Sent.{Sent}
 use Rattle.flow_text.proofs.FlowFates.{three_parts}

@@ -1,4 +1,4 @@
-use Rattle.text_lines.proofs.LineLemmas.{first_position}
+use Rattle.common_lines.proofs.LineLemmas.{first_position}
 use Rattle.journal.proofs.line.first_feed.Goals as goal
 
 pub returns : goal.returns

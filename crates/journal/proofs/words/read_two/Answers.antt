@@ -1,6 +1,6 @@
 use Rattle.std.proofs.Common.{sym, ap, ℕ, List, [], ◌∷◌}
 use Rattle.journal.specs.Lines.{Moves, OnSwitch}
-use Rattle.text_lines.proofs.ChoiceLemmas.{word_is}
+use Rattle.common_lines.proofs.ChoiceLemmas.{word_is}
 use Rattle.journal.proofs.ReadLemmas.{form_step}
 use Rattle.journal.proofs.words.read_two.Goals as goal
 

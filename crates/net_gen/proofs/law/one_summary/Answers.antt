@@ -1,7 +1,7 @@
 use Rattle.std.proofs.Common.{◌∙◌, ap, sym, List}
 use Rattle.an_base.specs.declared.event.Event.{Event}
-use Rattle.fabric_state.specs.declared.ending.Ending.{Ending}
-use Rattle.fabric_world.proofs.SoloLemmas.{one_run}
+use Rattle.net_state.specs.declared.ending.Ending.{Ending}
+use Rattle.net_world.proofs.SoloLemmas.{one_run}
 use Rattle.net_gen.specs.Summary.{summary_text}
 use Rattle.net_gen.proofs.law.one_summary.Goals as goal
 

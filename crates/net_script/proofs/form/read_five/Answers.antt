@@ -1,6 +1,6 @@
 use Rattle.std.proofs.Common.{sym, ap, ◌∙◌, ℕ, List, [], ◌∷◌, Some, codes}
 use Rattle.net_script.specs.Forms.{SwitchLine, LinkLine, HostLine, ChangesLink, Sends}
-use Rattle.text_lines.proofs.ChoiceLemmas.{word_is}
+use Rattle.common_lines.proofs.ChoiceLemmas.{word_is}
 use Rattle.net_script.proofs.FormLemmas.{form_step}
 use Rattle.net_script.proofs.form.read_five.Goals as goal
 

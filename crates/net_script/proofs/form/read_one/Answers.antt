@@ -1,6 +1,6 @@
 use Rattle.std.proofs.Common.{sym, ap, refl, ℕ, List, [], ◌∷◌}
 use Rattle.net_script.specs.Forms.{End}
-use Rattle.text_lines.proofs.ChoiceLemmas.{word_is}
+use Rattle.common_lines.proofs.ChoiceLemmas.{word_is}
 use Rattle.net_script.proofs.form.read_one.Goals as goal
 
 pub returns-then-is : goal.returns-then-is

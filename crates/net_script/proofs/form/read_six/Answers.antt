@@ -1,6 +1,6 @@
 use Rattle.std.proofs.Common.{sym, ap, ◌∙◌, ℕ, List, [], ◌∷◌, codes}
 use Rattle.net_script.specs.Forms.{ChangesWire}
-use Rattle.text_lines.proofs.ChoiceLemmas.{word_is}
+use Rattle.common_lines.proofs.ChoiceLemmas.{word_is}
 use Rattle.net_script.proofs.FormLemmas.{form_step}
 use Rattle.net_script.proofs.form.read_six.Goals as goal
 

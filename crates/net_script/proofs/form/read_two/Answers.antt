@@ -1,7 +1,7 @@
 use Rattle.std.proofs.Common.{sym, ap, ◌∙◌, ℕ, List, [], ◌∷◌, codes}
 use Rattle.net_script.specs.declared.setting.Setting.TheVariants.{Epoch, Pace}
 use Rattle.net_script.specs.Forms.{Number, AnyRoutes}
-use Rattle.text_lines.proofs.ChoiceLemmas.{word_is}
+use Rattle.common_lines.proofs.ChoiceLemmas.{word_is}
 use Rattle.net_script.proofs.FormLemmas.{form_step}
 use Rattle.net_script.proofs.form.read_two.Goals as goal
 

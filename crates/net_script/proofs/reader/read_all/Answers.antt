@@ -1,7 +1,7 @@
 use Rattle.std.proofs.Common.{arith}
 use Rattle.net_script.specs.Texts.{Adds}
 use Rattle.net_script.specs.Drafts.{start}
-use Rattle.text_lines.proofs.ChainLaws.{read_more}
+use Rattle.common_lines.proofs.ChainLaws.{read_more}
 use Rattle.net_script.proofs.reader.read_all.Goals as goal
 
 pub lines-preserved : goal.lines-preserved

@@ -1,6 +1,6 @@
 use Rattle.std.proofs.Common.{◌+◌, ◌∙◌, refl, sym, length, take}
 use Rattle.std.specs.Str.Lines.{strip_carriage_return}
-use Rattle.text_lines.proofs.LineLemmas.{first_at_feed, first_is_all}
+use Rattle.common_lines.proofs.LineLemmas.{first_at_feed, first_is_all}
 use Rattle.replay.proofs.DivisionLemmas.{back_sliced}
 use Rattle.replay.proofs.division.after_first.Goals as goal
 

@@ -1,5 +1,5 @@
 use Rattle.std.proofs.Common.{sym, eqb}
-use Rattle.text_lines.proofs.LineLemmas.{before_some, before_none}
+use Rattle.common_lines.proofs.LineLemmas.{before_some, before_none}
 use Rattle.replay.proofs.division.before_comment.Goals as goal
 
 pub returns-in-Some : goal.returns-in-Some

@@ -3,7 +3,7 @@ use Rattle.std.proofs.lemmas.Result.{IfOk-at_ok, IfOk-weaker}
 use Rattle.std.proofs.lemmas.Iterator.{YieldsList-from_take}
 use Rattle.std.proofs.lemmas.Iterator.Consumers.{map_from_collect, YieldsList-from_filter, YieldsList-at}
 use Rattle.std.proofs.lemmas.Iterator.Splits.{YieldsList-from_slice_split}
-use Rattle.text_lines.specs.Lines.{is_blank, parts_of, words_of}
+use Rattle.common_lines.specs.Lines.{is_blank, parts_of, words_of}
 use Rattle.replay.proofs.division.first_words.Goals as goal
 
 pub returns : goal.returns

@@ -1,4 +1,4 @@
-use Rattle.fabric_settling.proofs.Whole.{holds_and_settles}
+use Rattle.net_settling.proofs.Whole.{holds_and_settles}
 use Rattle.replay.proofs.world.end_of.Goals as goal
 
 pub returns-in-Some-clause-claims : goal.returns-in-Some-clause-claims

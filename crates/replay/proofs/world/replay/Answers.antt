@@ -1,6 +1,6 @@
 use Rattle.std.proofs.Common.{[], refl, subst, sym, OnOk, IfOk, IfErr}
-use Rattle.fabric_world.specs.Histories.{IsLegal}
-use Rattle.fabric_settling.specs.Claims.{HoldsAndSettles}
+use Rattle.net_world.specs.Histories.{IsLegal}
+use Rattle.net_settling.specs.Claims.{HoldsAndSettles}
 use Rattle.fabric_book.specs.Nets.{NetOf}
 use Rattle.replay.specs.Replays.{HasMade, IsRefusal}
 use Rattle.replay.proofs.world.replay.Goals as goal

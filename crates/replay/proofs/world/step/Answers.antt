@@ -1,7 +1,7 @@
 use Rattle.std.proofs.Common.{subst, sym}
-use Rattle.fabric_world.specs.Histories.{IsLawful}
+use Rattle.net_world.specs.Histories.{IsLawful}
 use Rattle.fabric_book.specs.Nets.{NetOf}
-use Rattle.fabric_world.proofs.CountLemmas.{lawful_more}
+use Rattle.net_world.proofs.CountLemmas.{lawful_more}
 use Rattle.replay.proofs.world.step.Goals as goal
 
 pub returns-in-Ok-clause-lawful : goal.returns-in-Ok-clause-lawful

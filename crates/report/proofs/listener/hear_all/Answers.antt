@@ -1,8 +1,8 @@
 use Rattle.std.proofs.Common.{◌≡◌, ◌∙◌, [], List, arith, refl, subst, take, take_all, Some}
 use Rattle.std.proofs.lemmas.Result.{err_from_is_err_and}
 use Rattle.an_base.specs.declared.event.Event.{Event}
-use Rattle.fabric_world.specs.Histories.{IsLegal}
-use Rattle.fabric_settling.specs.Claims.{HoldsAndSettles}
+use Rattle.net_world.specs.Histories.{IsLegal}
+use Rattle.net_settling.specs.Claims.{HoldsAndSettles}
 use Rattle.replay.specs.Replays.{HasMade, IsRefusal}
 use Rattle.replay.proofs.ReplayLemmas.{made_all, refused_at, refused_behind}
 use Rattle.report.specs.Moments.{told_so_far}

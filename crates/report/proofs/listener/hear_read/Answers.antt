@@ -1,8 +1,8 @@
 use Rattle.std.proofs.Common.{◌≡◌, ◌++◌, ◌∷◌, [], List, refl, subst, sym, Some}
 use Rattle.std.proofs.lemmas.Result.{err_from_is_err_and}
 use Rattle.an_base.specs.declared.event.Event.{Event}
-use Rattle.fabric_world.specs.Histories.{IsLegal}
-use Rattle.fabric_settling.specs.Claims.{HoldsAndSettles}
+use Rattle.net_world.specs.Histories.{IsLegal}
+use Rattle.net_settling.specs.Claims.{HoldsAndSettles}
 use Rattle.replay.specs.Replays.{HasMade}
 use Rattle.journal.proofs.ReadingLemmas.{next_none, next_some}
 use Rattle.replay.proofs.ReplayLemmas.{events_are, made_these, refused_end, refused_fault, unlawful_there}

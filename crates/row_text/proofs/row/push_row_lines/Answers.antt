@@ -2,7 +2,7 @@ use Rattle.std.proofs.Common.{◌∙◌, ◌++◌, sym, ap, refl}
 use Rattle.topo_graph.specs.Topology.{life_at}
 use Rattle.an_base.specs.Values.{LifeId}
 use Rattle.table_build.specs.Exits.{is_entry}
-use Rattle.text_lines.specs.Lines.{line_text}
+use Rattle.common_lines.specs.Lines.{line_text}
 use Rattle.row_text.specs.TableForms.{table_words}
 use Rattle.row_text.specs.Rows.{row_form}
 use Rattle.row_text.proofs.RowLemmas.{entries_more, entries_same}

@@ -1,7 +1,7 @@
 use Rattle.std.proofs.Common.{◌≡◌, ◌∙◌, ap, sym, append_assoc, get_or, ℕ, List, [], ◌∷◌, ◌++◌, map}
 use Rattle.std.specs.Fmt.{decimal}
-use Rattle.text_lines.specs.Lines.{line_text}
-use Rattle.text_lines.proofs.FormTexts.{line_pieces}
+use Rattle.common_lines.specs.Lines.{line_text}
+use Rattle.common_lines.proofs.FormTexts.{line_pieces}
 use Rattle.script_text.specs.Canonical.{spaced_numbers}
 use Rattle.script_text.proofs.printer.push_at.Goals as goal
 

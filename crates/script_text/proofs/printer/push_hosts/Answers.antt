@@ -2,8 +2,8 @@ use Rattle.std.proofs.Common.{◌≡◌, ◌++◌, ap, subst, length, arith, []}
 use Rattle.net_graph.specs.declared.wiring.HostOn.{HostOn}
 use Rattle.net_graph.specs.Wires.{Wires}
 use Rattle.script_text.specs.Canonical.{host_form}
-use Rattle.text_lines.specs.Lines.{line_text}
-use Rattle.text_lines.proofs.FormTexts.{pairs_more}
+use Rattle.common_lines.specs.Lines.{line_text}
+use Rattle.common_lines.proofs.FormTexts.{pairs_more}
 use Rattle.net_script.specs.Forms.{form_words}
 use Rattle.script_text.proofs.printer.push_hosts.Goals as goal
 

@@ -1,7 +1,7 @@
 use Rattle.std.proofs.Common.{ap, length, arith, []}
 use Rattle.net_graph.specs.Wires.{Wires}
 use Rattle.script_text.specs.Canonical.{switch_form}
-use Rattle.text_lines.proofs.FormTexts.{pairs_more}
+use Rattle.common_lines.proofs.FormTexts.{pairs_more}
 use Rattle.net_script.specs.Forms.{form_words}
 use Rattle.script_text.proofs.printer.push_switches.Goals as goal
 

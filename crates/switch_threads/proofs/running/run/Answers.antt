@@ -3,8 +3,8 @@
 use Rattle.std.proofs.Common.{◌≡◌, ◌∙◌, ◌+◌, ap, arith, length}
 use Rattle.net_graph.specs.Wires.{Wires}
 use Rattle.fabric_turn.specs.Names.{turnstile_id}
-use Rattle.fabric_world.specs.Histories.{HistoryOf}
-use Rattle.fabric_settling.proofs.Whole.{holds_and_settles}
+use Rattle.net_world.specs.Histories.{HistoryOf}
+use Rattle.net_settling.proofs.Whole.{holds_and_settles}
 use Rattle.switch_threads.proofs.RunLemmas.{opened_first}
 use Rattle.switch_threads.proofs.running.run.Goals as goal
 

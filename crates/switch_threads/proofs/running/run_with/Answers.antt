@@ -1,8 +1,8 @@
 -- The run, from its first seat to the whole history.
 
 use Rattle.std.proofs.Common.{◌≡◌, ◌∙◌, All, List, IfSome, Option, Some, ap, arith, length, subst, sym}
-use Rattle.fabric_state.specs.declared.ending.Ending.{Ending}
-use Rattle.fabric_world.specs.Histories.{end_of}
+use Rattle.net_state.specs.declared.ending.Ending.{Ending}
+use Rattle.net_world.specs.Histories.{end_of}
 use Rattle.fabric_turn.specs.Names.{turnstile_id}
 use Rattle.switch_threads.specs.Runs.{AreWorkers, DriverOf, HaveCalled, SeatOf}
 use Rattle.switch_threads.proofs.RunLemmas.{driver_one, given_back, one_stays, ones_have, ones_stay}

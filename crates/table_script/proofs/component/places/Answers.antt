@@ -1,5 +1,5 @@
 use Rattle.std.proofs.Common.{sym, ap, ◌∙◌, ℕ, List, [], ◌∷◌, ◌++◌}
-use Rattle.an_base.proofs.ListLemmas.{places_more}
+use Rattle.common_values.proofs.ListLemmas.{places_more}
 use Rattle.table_script.proofs.component.places.Goals as goal
 
 pub places-preserved : goal.places-preserved

@@ -1,5 +1,5 @@
 use Rattle.std.proofs.Common.{◌≡◌, ◌++◌, map, length}
-use Rattle.text_lines.specs.Lines.{parts_of}
+use Rattle.common_lines.specs.Lines.{parts_of}
 use Rattle.table_script.specs.TableRules.{are_pairs, row_of}
 use Rattle.table_script.proofs.table_form.push_rows.Given as goal
 

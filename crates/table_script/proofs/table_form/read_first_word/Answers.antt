@@ -1,6 +1,6 @@
 use Rattle.std.proofs.Common.{sym, ap, ◌∙◌, refl, ℕ, List, ◌∷◌, map}
 use Rattle.row_text.specs.TableForms.{ComponentLine, MemberLine}
-use Rattle.text_lines.proofs.ChoiceLemmas.{word_is}
+use Rattle.common_lines.proofs.ChoiceLemmas.{word_is}
 use Rattle.table_script.proofs.TableFormOf.{end_words}
 use Rattle.table_script.proofs.table_form.read_first_word.Goals as goal
 

@@ -1,5 +1,5 @@
 use Rattle.std.proofs.Common.{◌∙◌, ap, List, ℕ, ◌∷◌, codes}
-use Rattle.text_lines.specs.Lines.{parts_of}
+use Rattle.common_lines.specs.Lines.{parts_of}
 use Rattle.row_text.specs.TableForms.{RowLine}
 use Rattle.table_script.proofs.TableFormOf.{table_step}
 use Rattle.table_script.proofs.table_form.read_row_words.Goals as goal

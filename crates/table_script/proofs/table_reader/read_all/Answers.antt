@@ -1,7 +1,7 @@
 use Rattle.std.proofs.Common.{arith}
 use Rattle.table_script.specs.TableTexts.{AddsTold, none_told}
 use Rattle.table_script.specs.TableSteps.{told_of}
-use Rattle.text_lines.proofs.ChainLaws.{read_more, all_read}
+use Rattle.common_lines.proofs.ChainLaws.{read_more, all_read}
 use Rattle.table_script.proofs.table_reader.read_all.Goals as goal
 
 pub lines-preserved : goal.lines-preserved

@@ -1,7 +1,7 @@
 use Rattle.std.proofs.Common.{length, ◌+◌, ◌≤◌}
 use Rattle.table_script.specs.TableTexts.{AddsTold, none_told}
 use Rattle.table_script.specs.TableSteps.{told_of, IsReady}
-use Rattle.text_lines.proofs.ChainLaws.{IsReadBy}
+use Rattle.common_lines.proofs.ChainLaws.{IsReadBy}
 use Rattle.table_script.proofs.table_reader.read_all.Given as goal
 
 -- the lines before the rest are good, and no more than the bytes before it

@@ -1,7 +1,7 @@
 use Rattle.std.proofs.Common.{rules, ◌≡◌, ◌∙◌, sym, ap, refl, arith, nat_le, true, None}
 use Rattle.std.specs.List.{list_all}
 use Rattle.std.proofs.lemmas.Bool.Decides.{nat_tests}
-use Rattle.text_lines.specs.Lines.{is_line_byte, parts_of, words_of}
+use Rattle.common_lines.specs.Lines.{is_line_byte, parts_of, words_of}
 use Rattle.net_script.specs.Texts.{bytes_cause}
 use Rattle.table_script.proofs.LineStep.{line_step, empty_line}
 use Rattle.table_script.proofs.table_reader.read_table_line.Goals as goal

@@ -1,4 +1,4 @@
-use Rattle.text_lines.proofs.LineLemmas.{first_position}
+use Rattle.common_lines.proofs.LineLemmas.{first_position}
 use Rattle.table_script.proofs.table_words.first_mark.Goals as goal
 
 pub returns : goal.returns

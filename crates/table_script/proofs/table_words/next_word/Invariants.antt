@@ -1,5 +1,5 @@
 use Rattle.std.proofs.Common.{◌≡◌, ◌≤◌, length}
-use Rattle.text_lines.specs.Lines.{parts_of}
+use Rattle.common_lines.specs.Lines.{parts_of}
 use Rattle.table_script.proofs.table_words.next_word.Given as goal
 
 -- blanks were passed over

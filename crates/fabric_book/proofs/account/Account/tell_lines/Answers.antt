@@ -2,9 +2,9 @@
 
 use Rattle.std.proofs.Common.{◌≡◌, ◌∙◌, ◌+◌, ◌++◌, ◌∷◌, ◌<◌, ◌≤◌, [], List, ap, append_assoc, false, length, slice_index_or, subst, sym, take}
 use Rattle.std.proofs.lemmas.List.{map_more, take_all}
-use Rattle.fabric_world.specs.Accounts.{AccountOf, placed}
-use Rattle.fabric_state.specs.declared.line.Line.{Line}
-use Rattle.fabric_state.specs.declared.line.PlacedLine.{PlacedLine}
+use Rattle.net_world.specs.Accounts.{AccountOf, placed}
+use Rattle.net_state.specs.declared.line.Line.{Line}
+use Rattle.net_state.specs.declared.line.PlacedLine.{PlacedLine}
 use Rattle.fabric_book.specs.Accounts.{IsAccount, with_lines}
 use Rattle.fabric_book.proofs.account.Account.tell_lines.Goals as goal
 

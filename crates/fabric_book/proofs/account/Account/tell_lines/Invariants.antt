@@ -1,7 +1,7 @@
 -- The lines so far are told.
 
 use Rattle.std.proofs.Common.{take}
-use Rattle.fabric_world.specs.Accounts.{AccountOf, placed}
+use Rattle.net_world.specs.Accounts.{AccountOf, placed}
 use Rattle.fabric_book.specs.Accounts.{IsAccount, with_lines}
 use Rattle.fabric_book.proofs.account.Account.tell_lines.Given as goal
 

@@ -3,7 +3,7 @@
 use Rattle.std.proofs.Common.{◌≡◌, ◌∙◌, ◌++◌, ◌∷◌, [], List, ap, false, map}
 use Rattle.std.proofs.lemmas.List.{map-append}
 use Rattle.an_base.specs.Rows.{RowOf}
-use Rattle.fabric_world.specs.Accounts.{AccountOf}
+use Rattle.net_world.specs.Accounts.{AccountOf}
 use Rattle.fabric_book.specs.Accounts.{IsAccount}
 use Rattle.fabric_book.proofs.account.Account.tell_load.Goals as goal
 

@@ -3,10 +3,10 @@
 use Rattle.std.proofs.Common.{◌∙◌, ◌∷◌, [], ap, refl, subst, sym}
 use Rattle.std.proofs.lemmas.List.{append-nil}
 use Rattle.an_base.specs.declared.event.Event.TheVariants.{Take}
-use Rattle.fabric_state.specs.declared.line.Line.{Line}
-use Rattle.fabric_state.specs.declared.work.Work.{Work}
-use Rattle.fabric_world.specs.Histories.{fabric_of, world_of}
-use Rattle.fabric_world.specs.Lines.{lines_of}
+use Rattle.net_state.specs.declared.line.Line.{Line}
+use Rattle.net_state.specs.declared.work.Work.{Work}
+use Rattle.net_world.specs.Histories.{fabric_of, world_of}
+use Rattle.net_world.specs.Lines.{lines_of}
 use Rattle.fabric_book.specs.Kept.{HasSamples}
 use Rattle.fabric_book.proofs.book.Book.begin_work.Goals as goal
 

@@ -2,7 +2,7 @@
 
 use Rattle.std.proofs.Common.{◌∙◌, ap, arith, refl, sym, vec_capacity}
 use Rattle.an_base.specs.declared.event.Event.TheVariants.{Clock}
-use Rattle.fabric_state.specs.Fabric.{FabricOf, samples_of}
+use Rattle.net_state.specs.Fabric.{FabricOf, samples_of}
 use Rattle.fabric_book.proofs.BookLemmas.{clock_kept, fabric_at, has_room, kept_as, lawful_at}
 use Rattle.fabric_book.proofs.book.Book.clock.Goals as goal
 

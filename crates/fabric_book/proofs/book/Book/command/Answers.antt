@@ -2,8 +2,8 @@
 
 use Rattle.std.proofs.Common.{◌≡◌, ◌∙◌, ◌++◌, ◌∷◌, [], List, ap, arith, refl, true, vec_capacity}
 use Rattle.an_base.specs.declared.event.Event.{Event}
-use Rattle.fabric_state.specs.Fabric.{FabricOf}
-use Rattle.fabric_state.specs.Lawful.{is_command}
+use Rattle.net_state.specs.Fabric.{FabricOf}
+use Rattle.net_state.specs.Lawful.{is_command}
 use Rattle.fabric_book.proofs.BookLemmas.{command_kept, command_script, commanded_told, events_at, fabric_at, has_room, kept_as, lawful_at, script_at}
 use Rattle.fabric_book.proofs.WorldFacts.{command_fits}
 use Rattle.fabric_book.proofs.book.Book.command.Goals as goal

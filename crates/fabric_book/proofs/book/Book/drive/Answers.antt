@@ -1,12 +1,12 @@
 -- What the driver does next may come, and is no worker's; and the history settles soon.
 
 use Rattle.std.proofs.Common.{◌≡◌, ◌∙◌, ap, subst, sym, vec_capacity}
-use Rattle.fabric_state.specs.declared.ending.Ending.TheVariants as ending
-use Rattle.fabric_state.specs.declared.work.Drive.TheVariants as drive
-use Rattle.fabric_state.specs.Choices.{next_drive}
-use Rattle.fabric_world.specs.Histories.{HistoryOf, fabric_of}
-use Rattle.fabric_settling.specs.Settling.{SettlesSoon}
-use Rattle.fabric_settling.proofs.Whole.{settles_soon}
+use Rattle.net_state.specs.declared.ending.Ending.TheVariants as ending
+use Rattle.net_state.specs.declared.work.Drive.TheVariants as drive
+use Rattle.net_state.specs.Choices.{next_drive}
+use Rattle.net_world.specs.Histories.{HistoryOf, fabric_of}
+use Rattle.net_settling.specs.Settling.{SettlesSoon}
+use Rattle.net_settling.proofs.Whole.{settles_soon}
 use Rattle.fabric_book.proofs.BookLemmas.{drives_by, fabric_at, good_at, history_at}
 use Rattle.fabric_book.proofs.DriveLemmas.{drive_lawful, driven, driven_soon, unsettled_late}
 use Rattle.fabric_book.proofs.WorldFacts.{drive_may_come}

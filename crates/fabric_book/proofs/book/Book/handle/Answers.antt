@@ -2,9 +2,9 @@
 
 use Rattle.std.proofs.Common.{◌≡◌, ◌∙◌, ◌+◌, ◌<◌, ℕ, ap, arith, refl, subst, sym, vec_capacity}
 use Rattle.an_base.specs.declared.event.Event.TheVariants.{Handle}
-use Rattle.fabric_state.specs.Effects.{ShowsOnly, all_put_out, emptied}
-use Rattle.fabric_state.specs.Fabric.{FabricOf, StationOf, full_hands, station}
-use Rattle.fabric_state.specs.declared.hand.Hand.TheVariants as hand
+use Rattle.net_state.specs.Effects.{ShowsOnly, all_put_out, emptied}
+use Rattle.net_state.specs.Fabric.{FabricOf, StationOf, full_hands, station}
+use Rattle.net_state.specs.declared.hand.Hand.TheVariants as hand
 use Rattle.fabric_book.proofs.BookLemmas.{handled_kept, handled_lawful, handled_only, handled_port, handled_room, has_room, kept_as, three_parts}
 use Rattle.fabric_book.proofs.book.Book.handle.Goals as goal
 

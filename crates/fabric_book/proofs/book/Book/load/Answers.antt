@@ -2,11 +2,11 @@
 
 use Rattle.std.proofs.Common.{◌≡◌, ◌∙◌, ◌∷◌, [], Bool, Some, ap, false, refl, subst, sym, true, vec_capacity}
 use Rattle.an_base.specs.declared.event.Event.TheVariants.{Load}
-use Rattle.fabric_state.specs.declared.line.PlacedLine.{PlacedLine}
-use Rattle.fabric_world.specs.Histories.{HistoryOf, fabric_of}
-use Rattle.fabric_world.specs.Turns.{LoadsOrNot}
-use Rattle.fabric_world.specs.declared.ask.Reply.TheVariants as reply
-use Rattle.fabric_state.specs.Lawful.{is_barred}
+use Rattle.net_state.specs.declared.line.PlacedLine.{PlacedLine}
+use Rattle.net_world.specs.Histories.{HistoryOf, fabric_of}
+use Rattle.net_world.specs.Turns.{LoadsOrNot}
+use Rattle.net_world.specs.declared.ask.Reply.TheVariants as reply
+use Rattle.net_state.specs.Lawful.{is_barred}
 use Rattle.fabric_book.proofs.BookLemmas.{drive_told, fabric_at}
 use Rattle.fabric_book.proofs.WorldFacts.{load_may_come}
 use Rattle.fabric_book.proofs.book.Book.load.Goals as goal

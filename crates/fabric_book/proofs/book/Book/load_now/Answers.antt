@@ -2,8 +2,8 @@
 
 use Rattle.std.proofs.Common.{arith, refl, subst, sym, vec_capacity}
 use Rattle.an_base.specs.declared.event.Event.TheVariants.{Load}
-use Rattle.fabric_world.specs.Histories.{HistoryOf, world_of}
-use Rattle.fabric_world.specs.Turns.{IsToLoad}
+use Rattle.net_world.specs.Histories.{HistoryOf, world_of}
+use Rattle.net_world.specs.Turns.{IsToLoad}
 use Rattle.fabric_book.proofs.BookLemmas.{has_room, kept_as, lawful_at, load_kept}
 use Rattle.fabric_book.proofs.HandLemmas.{load_told}
 use Rattle.fabric_book.proofs.book.Book.load_now.Goals as goal

@@ -2,7 +2,7 @@
 
 use Rattle.std.proofs.Common.{◌∙◌, ap, arith, slice_set, vec_capacity}
 use Rattle.an_base.specs.declared.event.Event.TheVariants.{Take}
-use Rattle.fabric_state.specs.Fabric.{FabricOf, held_bytes}
+use Rattle.net_state.specs.Fabric.{FabricOf, held_bytes}
 use Rattle.fabric_book.specs.Kept.{IsKept}
 use Rattle.fabric_book.proofs.BookLemmas.{has_room, kept_as, lawful_at, take_below, take_kept, taken_long, taken_told}
 use Rattle.fabric_book.proofs.book.Book.take_at.Goals as goal

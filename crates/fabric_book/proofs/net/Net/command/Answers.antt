@@ -4,10 +4,10 @@ use Rattle.std.proofs.Common.{◌≡◌, ◌∙◌, ◌++◌, List, ap, refl, su
 use Rattle.std.specs.Prelude.{option_to_list}
 use Rattle.std.proofs.lemmas.Result.{on_ok_weaker}
 use Rattle.net_script.specs.Scripts.{IsScript}
-use Rattle.fabric_state.specs.Lawful.{is_command}
-use Rattle.fabric_world.specs.Histories.{HistoryOf, fabric_of, world_of}
-use Rattle.fabric_state.specs.declared.line.Line.{Line}
-use Rattle.fabric_world.specs.Lines.{lines_of}
+use Rattle.net_state.specs.Lawful.{is_command}
+use Rattle.net_world.specs.Histories.{HistoryOf, fabric_of, world_of}
+use Rattle.net_state.specs.declared.line.Line.{Line}
+use Rattle.net_world.specs.Lines.{lines_of}
 use Rattle.fabric_book.proofs.NetLemmas.{book_at, command_owner, may_at, net_as, net_driven}
 use Rattle.fabric_book.proofs.WorldFacts.{world_script}
 use Rattle.fabric_book.proofs.net.Net.command.Goals as goal

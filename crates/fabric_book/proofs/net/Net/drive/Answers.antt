@@ -5,12 +5,12 @@ use Rattle.std.proofs.lemmas.List.{append-nil}
 use Rattle.std.proofs.lemmas.List.Elements.{All-cons, All-nil}
 use Rattle.an_base.specs.declared.event.Event.{Event}
 use Rattle.net_script.specs.Scripts.{IsScript}
-use Rattle.fabric_state.specs.declared.work.Drive.{Drive}
-use Rattle.fabric_state.specs.declared.work.Drive.TheVariants as drive
-use Rattle.fabric_state.specs.Choices.{event_of_drive, next_drive}
-use Rattle.fabric_state.specs.Lawful.{is_lawful}
-use Rattle.fabric_world.specs.Histories.{HistoryOf, fabric_of, world_of}
-use Rattle.fabric_state.specs.declared.line.Line.{Line}
+use Rattle.net_state.specs.declared.work.Drive.{Drive}
+use Rattle.net_state.specs.declared.work.Drive.TheVariants as drive
+use Rattle.net_state.specs.Choices.{event_of_drive, next_drive}
+use Rattle.net_state.specs.Lawful.{is_lawful}
+use Rattle.net_world.specs.Histories.{HistoryOf, fabric_of, world_of}
+use Rattle.net_state.specs.declared.line.Line.{Line}
 use Rattle.fabric_book.specs.Nets.{NetOf, history_of, with_events}
 use Rattle.fabric_book.specs.Rounds.{drive_lines}
 use Rattle.fabric_book.proofs.DriveLemmas.{drive_lawful}

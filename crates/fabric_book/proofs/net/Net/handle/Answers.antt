@@ -3,7 +3,7 @@
 use Rattle.std.proofs.Common.{◌∙◌, ◌++◌, ◌∷◌, ◌<◌, ℕ, List, [], ap, arith, length, refl, slice_index_or, slice_set, subst, sym}
 use Rattle.std.proofs.lemmas.List.{length-set}
 use Rattle.an_base.specs.declared.event.Event.TheVariants.{Handle}
-use Rattle.fabric_world.specs.Histories.{HistoryOf, world_of}
+use Rattle.net_world.specs.Histories.{HistoryOf, world_of}
 use Rattle.fabric_book.specs.Nets.{IsSwitchKept}
 use Rattle.fabric_book.proofs.NetLemmas.{here_at, here_kept, may_at, net_as, net_below, net_lost_either, net_switched, same_item}
 use Rattle.fabric_book.proofs.net.Net.handle.Goals as goal

@@ -3,9 +3,9 @@
 use Rattle.std.proofs.Common.{◌≡◌, ◌∙◌, ◌++◌, ◌∷◌, [], List, ap, refl}
 use Rattle.std.proofs.lemmas.Result.{on_ok_weaker}
 use Rattle.an_base.specs.declared.event.Event.TheVariants.{Move}
-use Rattle.fabric_world.specs.Histories.{HistoryOf, world_of}
-use Rattle.fabric_world.specs.Lines.{lines_of}
-use Rattle.fabric_state.specs.declared.line.Line.{Line}
+use Rattle.net_world.specs.Histories.{HistoryOf, world_of}
+use Rattle.net_world.specs.Lines.{lines_of}
+use Rattle.net_state.specs.declared.line.Line.{Line}
 use Rattle.fabric_book.proofs.NetLemmas.{book_at, may_at, net_as, net_driven}
 use Rattle.fabric_book.proofs.net.Net.hop.Goals as goal
 

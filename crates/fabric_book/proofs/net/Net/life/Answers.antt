@@ -1,7 +1,7 @@
 -- There is a station at the place of each switch.
 
 use Rattle.std.proofs.Common.{◌<◌, subst, sym}
-use Rattle.fabric_state.specs.Fabric.{FabricOf, count}
+use Rattle.net_state.specs.Fabric.{FabricOf, count}
 use Rattle.fabric_book.specs.Nets.{history_of}
 use Rattle.fabric_book.proofs.NetLemmas.{within_count}
 use Rattle.fabric_book.proofs.net.Net.life.Goals as goal

@@ -1,6 +1,6 @@
 -- Each lawful event is made.
 
-use Rattle.fabric_world.specs.Histories.{fabric_of, world_of}
+use Rattle.net_world.specs.Histories.{fabric_of, world_of}
 use Rattle.fabric_book.specs.Nets.{history_of}
 use Rattle.fabric_book.proofs.NetLemmas.{plain_at}
 use Rattle.fabric_book.proofs.TellLemmas.{clock_told, tick_told}

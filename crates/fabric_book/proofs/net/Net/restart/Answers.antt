@@ -1,10 +1,10 @@
 -- A switch began its next life.
 
-use Rattle.fabric_state.specs.declared.line.Line.{Line}
+use Rattle.net_state.specs.declared.line.Line.{Line}
 use Rattle.std.proofs.Common.{◌≡◌, ◌∙◌, ◌++◌, ◌∷◌, ◌<◌, [], ap, arith, length, refl, slice_index_or, slice_set, subst}
 use Rattle.std.proofs.lemmas.Result.{on_ok_weaker}
 use Rattle.an_base.specs.declared.event.Event.TheVariants.{Restart}
-use Rattle.fabric_world.specs.Histories.{world_of}
+use Rattle.net_world.specs.Histories.{world_of}
 use Rattle.fabric_book.specs.Nets.{IsStarted, PowerOf, history_of, start_with}
 use Rattle.fabric_book.proofs.NetLemmas.{here_at, may_at, net_as, net_below, net_lost_on, net_switched, power_here, power_long}
 use Rattle.fabric_book.proofs.OwnLemmas.{restart_own}

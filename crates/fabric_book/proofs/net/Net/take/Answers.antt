@@ -4,10 +4,10 @@ use Rattle.std.proofs.Common.{◌≡◌, ◌∙◌, ◌++◌, List, ap, arith, r
 use Rattle.std.specs.Prelude.{option_to_list}
 use Rattle.std.proofs.lemmas.Result.{on_ok_weaker}
 use Rattle.an_base.specs.declared.event.Event.TheVariants.{Take}
-use Rattle.fabric_state.specs.Fabric.{held_bytes}
-use Rattle.fabric_world.specs.Histories.{HistoryOf, fabric_of, world_of}
-use Rattle.fabric_world.specs.Lines.{lines_of}
-use Rattle.fabric_state.specs.declared.line.Line.{Line}
+use Rattle.net_state.specs.Fabric.{held_bytes}
+use Rattle.net_world.specs.Histories.{HistoryOf, fabric_of, world_of}
+use Rattle.net_world.specs.Lines.{lines_of}
+use Rattle.net_state.specs.declared.line.Line.{Line}
 use Rattle.fabric_book.proofs.NetLemmas.{book_at, here_at, may_at, net_as, net_below, net_filled}
 use Rattle.fabric_book.proofs.OwnLemmas.{take_own}
 use Rattle.fabric_book.proofs.net.Net.take.Goals as goal

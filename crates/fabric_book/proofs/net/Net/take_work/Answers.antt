@@ -1,9 +1,9 @@
 -- A switch whose hand is empty took its next work.
 
 use Rattle.std.proofs.Common.{◌≡◌, ◌<◌, ◌∙◌, ap, arith, false, length, refl, slice_index_or, slice_set, subst, sym}
-use Rattle.fabric_state.specs.Fabric.{is_full_at}
-use Rattle.fabric_state.specs.declared.work.Work.TheVariants as work
-use Rattle.fabric_world.specs.Histories.{HistoryOf, fabric_of}
+use Rattle.net_state.specs.Fabric.{is_full_at}
+use Rattle.net_state.specs.declared.work.Work.TheVariants as work
+use Rattle.net_world.specs.Histories.{HistoryOf, fabric_of}
 use Rattle.fabric_book.proofs.NetLemmas.{book_at, here_at, net_as, power_long, within_at}
 use Rattle.fabric_book.proofs.WorkLemmas.{clock_taken, frame_taken, life_lost, life_taken, none_taken, work_some, work_view}
 use Rattle.fabric_book.proofs.net.Net.take_work.Goals as goal

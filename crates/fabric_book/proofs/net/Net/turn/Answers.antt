@@ -5,10 +5,10 @@ use Rattle.std.proofs.lemmas.List.Elements.{All-cons, All-nil}
 use Rattle.std.proofs.lemmas.Result.{on_ok_weaker}
 use Rattle.an_base.specs.declared.event.Event.{Event}
 use Rattle.an_base.specs.declared.event.Event.TheVariants.{Handle, Load}
-use Rattle.fabric_state.specs.Choices.{event_of_work, next_work}
-use Rattle.fabric_state.specs.Fabric.{FabricOf, StationOf, count, is_empty, is_full_at, station}
-use Rattle.fabric_state.specs.Lawful.{is_barred, is_lawful}
-use Rattle.fabric_world.specs.Histories.{HistoryOf, fabric_of, last_taken}
+use Rattle.net_state.specs.Choices.{event_of_work, next_work}
+use Rattle.net_state.specs.Fabric.{FabricOf, StationOf, count, is_empty, is_full_at, station}
+use Rattle.net_state.specs.Lawful.{is_barred, is_lawful}
+use Rattle.net_world.specs.Histories.{HistoryOf, fabric_of, last_taken}
 use Rattle.fabric_book.specs.Nets.{NetOf, history_of}
 use Rattle.fabric_book.proofs.NetLemmas.{book_at, net_room, within_at, within_count}
 use Rattle.fabric_book.proofs.RoundLemmas.{work_one}

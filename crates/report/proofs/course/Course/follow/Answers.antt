@@ -3,7 +3,7 @@ use Rattle.std.proofs.lemmas.List.{get_or_default}
 use Rattle.an_base.specs.Values.{LifeId}
 use Rattle.an_base.specs.declared.event.Event.{Event}
 use Rattle.an_base.specs.declared.event.Event.TheVariants.{Tick, Restart}
-use Rattle.fabric_state.specs.Fabric.{no_life}
+use Rattle.net_state.specs.Fabric.{no_life}
 use Rattle.report.specs.Events.{CourseOf}
 use Rattle.report.specs.Retellings.{Comes}
 use Rattle.report.proofs.CourseLemmas.{boot_fits, course_behind, course_next, events_fit, only_counts, place_fits, restarted, ticks_fit}

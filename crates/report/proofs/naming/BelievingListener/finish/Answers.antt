@@ -1,6 +1,6 @@
 use Rattle.std.proofs.Common.{◌∙◌, ◌++◌, ap, List, ℕ, arith}
 use Rattle.std.proofs.lemmas.Result.{on_ok_weaker}
-use Rattle.text_lines.specs.Lines.{line_text}
+use Rattle.common_lines.specs.Lines.{line_text}
 use Rattle.report.proofs.RememberingLemmas.{counts_are, kept_few}
 use Rattle.report.proofs.naming.BelievingListener.finish.Goals as goal
 

@@ -4,9 +4,9 @@ use Rattle.std.proofs.Common.{◌∙◌, ap, sym, subst}
 use Rattle.switch_core.specs.Kept.{KeptOf, Loads, StandsFor}
 use Rattle.switch_core.specs.Steps.{loaded}
 use Rattle.switch_core.specs.declared.switch.TableFor.{TableFor}
-use Rattle.fabric_world.specs.declared.ask.Sheet.{Sheet}
+use Rattle.net_world.specs.declared.ask.Sheet.{Sheet}
 use Rattle.switch_threads.specs.Workers.{IsUpTo}
-use Rattle.fabric_world.specs.World.{world_after}
+use Rattle.net_world.specs.World.{world_after}
 use Rattle.switch_threads.proofs.TurnLemmas.{due_fits}
 use Rattle.switch_threads.proofs.desk.Desk.due.Goals as goal
 

@@ -3,15 +3,15 @@
 use Rattle.std.proofs.Common.{◌≡◌, ◌∙◌, ◌+◌, ◌++◌, ◌<◌, ◌^◌, List, ℕ, ap, subst, sym}
 use Rattle.switch_core.specs.Kept.{IsWorking, KeptOf, StandsFor}
 use Rattle.switch_core.specs.Switch.{note_of}
-use Rattle.fabric_state.specs.Fabric.{is_empty}
-use Rattle.fabric_state.specs.Fits.{IsHandPort}
-use Rattle.fabric_world.proofs.NextLemmas.{handle_is_lawful}
-use Rattle.fabric_world.specs.World.{handles, world_after}
-use Rattle.fabric_state.specs.declared.line.Line.{Line}
+use Rattle.net_state.specs.Fabric.{is_empty}
+use Rattle.net_state.specs.Fits.{IsHandPort}
+use Rattle.net_world.proofs.NextLemmas.{handle_is_lawful}
+use Rattle.net_world.specs.World.{handles, world_after}
+use Rattle.net_state.specs.declared.line.Line.{Line}
 use Rattle.fabric_book.specs.Nets.{IsHandled}
 use Rattle.fabric_book.specs.Told.{hand_lines}
-use Rattle.fabric_world.specs.declared.ask.Letter.{Letter}
-use Rattle.fabric_world.specs.declared.ask.Parcel.{Parcel}
+use Rattle.net_world.specs.declared.ask.Letter.{Letter}
+use Rattle.net_world.specs.declared.ask.Parcel.{Parcel}
 use Rattle.fabric_book.proofs.HandLemmas.{hand_filled, hand_port, hand_working, hand_works, lines_at}
 use Rattle.switch_threads.proofs.TurnLemmas.{handled_done, handled_fits}
 use Rattle.switch_threads.proofs.desk.Desk.handle.Goals as goal

@@ -4,12 +4,12 @@ use Rattle.std.specs.Prelude.{refl}
 use Rattle.std.specs.Box.{with_value}
 use Rattle.std.proofs.Common.{◌∙◌, ◌+◌, ◌++◌, List, ap, subst, sym}
 use Rattle.an_base.specs.Rows.{RowOf}
-use Rattle.fabric_state.specs.Lawful.{is_barred}
-use Rattle.fabric_world.specs.World.{world_after}
-use Rattle.fabric_world.specs.declared.ask.Ask.TheVariants as ask
-use Rattle.fabric_world.specs.declared.ask.Reply.TheVariants as reply
+use Rattle.net_state.specs.Lawful.{is_barred}
+use Rattle.net_world.specs.World.{world_after}
+use Rattle.net_world.specs.declared.ask.Ask.TheVariants as ask
+use Rattle.net_world.specs.declared.ask.Reply.TheVariants as reply
 use Rattle.fabric_book.specs.Accounts.{IsAccount, with_load}
-use Rattle.fabric_world.specs.declared.ask.Parcel.{Parcel}
+use Rattle.net_world.specs.declared.ask.Parcel.{Parcel}
 use Rattle.switch_threads.specs.Workers.{IsUpTo}
 use Rattle.switch_threads.specs.declared.desk.Pending.TheVariants as pending
 use Rattle.switch_threads.proofs.AskLemmas.{load_fit, replies_load}

@@ -4,7 +4,7 @@ use Rattle.std.proofs.Common.{◌∙◌, [], ap, subst, sym}
 use Rattle.an_base.specs.Values.{LifeId}
 use Rattle.net_graph.specs.Wires.{Wires, network}
 use Rattle.switch_core.specs.Kept.{KeptOf, StandsFor}
-use Rattle.fabric_world.specs.World.{world_after}
+use Rattle.net_world.specs.World.{world_after}
 use Rattle.fabric_book.specs.Nets.{IsStarted, start_with}
 use Rattle.switch_threads.proofs.TurnLemmas.{begun_fits}
 use Rattle.switch_threads.proofs.desk.Desk.new.Goals as goal

@@ -3,11 +3,11 @@
 use Rattle.std.proofs.Common.{◌+◌, ◌++◌, subst}
 use Rattle.std.specs.List.{flat_map}
 use Rattle.std.specs.Prelude.{option_to_list}
-use Rattle.fabric_world.specs.Accounts.{placed}
-use Rattle.fabric_world.specs.declared.ask.Ask.TheVariants as ask
-use Rattle.fabric_world.specs.declared.ask.Reply.TheVariants as reply
+use Rattle.net_world.specs.Accounts.{placed}
+use Rattle.net_world.specs.declared.ask.Ask.TheVariants as ask
+use Rattle.net_world.specs.declared.ask.Reply.TheVariants as reply
 use Rattle.fabric_book.specs.Accounts.{IsAccount, with_lines}
-use Rattle.fabric_world.specs.declared.ask.Parcel.{Parcel}
+use Rattle.net_world.specs.declared.ask.Parcel.{Parcel}
 use Rattle.switch_threads.specs.declared.desk.Pending.TheVariants as pending
 use Rattle.switch_threads.proofs.AskLemmas.{put_fit, replies_put}
 use Rattle.switch_threads.proofs.StayLemmas.{at_place}

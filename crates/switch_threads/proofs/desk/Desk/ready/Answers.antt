@@ -1,7 +1,7 @@
 -- What was to be done was done.
 
 use Rattle.std.proofs.Common.{subst, sym}
-use Rattle.fabric_world.specs.declared.ask.Letter.{Letter}
+use Rattle.net_world.specs.declared.ask.Letter.{Letter}
 use Rattle.switch_threads.specs.Workers.{IsNext, IsToDo}
 use Rattle.switch_threads.proofs.desk.Desk.ready.Goals as goal
 

@@ -2,7 +2,7 @@
 
 use Rattle.std.proofs.Common.{subst, sym}
 use Rattle.switch_core.specs.Kept.{KeptOf, StandsFor}
-use Rattle.fabric_world.specs.World.{world_after}
+use Rattle.net_world.specs.World.{world_after}
 use Rattle.switch_threads.proofs.desk.Desk.restart.Goals as goal
 
 pub returns-clause-done : goal.returns-clause-done

@@ -1,8 +1,8 @@
 -- Work was asked for, and done.
 
 use Rattle.std.proofs.Common.{◌++◌, ap}
-use Rattle.fabric_world.specs.declared.ask.Ask.TheVariants as ask
-use Rattle.fabric_world.specs.declared.ask.Letter.{Letter}
+use Rattle.net_world.specs.declared.ask.Ask.TheVariants as ask
+use Rattle.net_world.specs.declared.ask.Letter.{Letter}
 use Rattle.switch_threads.specs.declared.desk.Pending.TheVariants as pending
 use Rattle.switch_threads.proofs.AskLemmas.{replies_take, take_fit}
 use Rattle.switch_threads.proofs.StayLemmas.{at_place}

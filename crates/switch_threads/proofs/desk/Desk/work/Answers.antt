@@ -1,8 +1,8 @@
 -- The work that was taken was done.
 
 use Rattle.std.proofs.Common.{ℕ, subst, sym}
-use Rattle.fabric_state.specs.declared.hand.Hand.TheVariants as hand
-use Rattle.fabric_state.specs.declared.work.Work.TheVariants as work
+use Rattle.net_state.specs.declared.hand.Hand.TheVariants as hand
+use Rattle.net_state.specs.declared.work.Work.TheVariants as work
 use Rattle.switch_threads.specs.Workers.{IsToDo, IsToHandle}
 use Rattle.switch_threads.proofs.desk.Desk.work.Goals as goal
 

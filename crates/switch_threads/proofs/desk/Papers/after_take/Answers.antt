@@ -1,7 +1,7 @@
 -- There was none.
 
 use Rattle.std.proofs.Common.{◌∙◌, ap, subst, sym}
-use Rattle.fabric_world.specs.declared.ask.Letter.{Letter}
+use Rattle.net_world.specs.declared.ask.Letter.{Letter}
 use Rattle.switch_threads.specs.Workers.{IsToDo}
 use Rattle.switch_threads.proofs.desk.Papers.after_take.Goals as goal
 

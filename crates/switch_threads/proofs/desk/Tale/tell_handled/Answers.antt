@@ -3,8 +3,8 @@
 use Rattle.std.proofs.Common.{◌∙◌, ◌++◌, List, Option, ap, subst}
 use Rattle.std.specs.List.{flat_map}
 use Rattle.std.specs.Prelude.{option_to_list}
-use Rattle.fabric_world.specs.Accounts.{placed}
-use Rattle.fabric_state.specs.declared.line.Line.{Line}
+use Rattle.net_world.specs.Accounts.{placed}
+use Rattle.net_state.specs.declared.line.Line.{Line}
 use Rattle.fabric_book.specs.Accounts.{IsAccount, with_lines}
 use Rattle.switch_threads.proofs.desk.Tale.tell_handled.Goals as goal
 

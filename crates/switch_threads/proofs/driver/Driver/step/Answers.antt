@@ -2,9 +2,9 @@
 
 use Rattle.std.specs.Prelude.{refl}
 use Rattle.std.proofs.Common.{◌∙◌, ◌++◌, ap, subst, sym}
-use Rattle.fabric_state.specs.declared.work.Drive.{Drive}
-use Rattle.fabric_world.specs.declared.ask.Ask.TheVariants as ask
-use Rattle.fabric_world.specs.declared.ask.Slip.{Slip}
+use Rattle.net_state.specs.declared.work.Drive.{Drive}
+use Rattle.net_world.specs.declared.ask.Ask.TheVariants as ask
+use Rattle.net_world.specs.declared.ask.Slip.{Slip}
 use Rattle.switch_threads.specs.Workers.{IsDriving}
 use Rattle.switch_threads.proofs.AskLemmas.{drive_fit, replies_drive}
 use Rattle.switch_threads.proofs.TurnLemmas.{answered, drive_step, end_after, tells_that}

@@ -1,6 +1,0 @@
-use Rattle.std.proofs.Common.{refl}
-use Rattle.answering.specs.Answer.{stopped}
-use Rattle.answering.proofs.command.status_of.Goals as goal
-
-pub returns-in-Err : goal.returns-in-Err
-returns-in-Err g c = stopped c.in-Err.ensures.stopped refl

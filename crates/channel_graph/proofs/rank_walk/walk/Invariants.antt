@@ -1,5 +1,0 @@
-use Rattle.std.specs.Prelude.{⊤}
-use Rattle.channel_graph.proofs.rank_walk.walk.Given as goal
-
-abbrev pub invariant-visits : goal.invariant-visits
-invariant-visits l = ⊤

@@ -1,8 +1,0 @@
-use Rattle.std.specs.Prelude.{⊤}
-use Rattle.channel_graph.proofs.tier_walk.Depths.leave.Given as goal
-
-abbrev pub invariant-open : goal.invariant-open
-invariant-open l = ⊤
-
-abbrev pub decreases-open : goal.decreases-open
-decreases-open l = l.self.open_count

@@ -1,8 +1,0 @@
-use Rattle.channel_graph.specs.Verdict.{AreAllRanks}
-use Rattle.channel_graph.proofs.RisingLemmas.{ranks_no_cycle}
-use Rattle.channel_graph.proofs.verdict.guessed_verdict.Goals as goal
-
-pub returns : goal.returns
-returns c =
-    let are : AreAllRanks c.args.graph.now c.in-Some.ranks.items = rw c.deref.ensures.value at c.are_ranks.ensures.0 c.if-not-are_ranks.false in
-    record { no_cycle = ranks_no_cycle c.args.graph.now c.in-Some.ranks.items are; ranked = are }

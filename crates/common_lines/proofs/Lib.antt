@@ -1,0 +1,10 @@
+pub mod FaultLemmas
+pub mod ChoiceLemmas
+pub mod LineLemmas
+pub mod LineTextLemmas
+pub mod WordLemmas
+pub mod SpellLemmas
+pub mod ChainLaws
+pub mod GrammarLaws
+pub mod StopLemmas
+pub mod FormTexts

@@ -1,8 +1,0 @@
-use Rattle.fabric_game.proofs.LivesLemmas.{lives_few, present}
-use Rattle.fabric_game.proofs.law.a_script_has_few_lives.Goals as goal
-
-pub returns-clause-few : goal.returns-clause-few
-returns-clause-few c = lives_few
-
-pub returns-clause-present : goal.returns-clause-present
-returns-clause-present c = present

@@ -1,5 +1,0 @@
-use Rattle.fabric_game.proofs.MomentLemmas.{holds_throughout}
-use Rattle.fabric_game.proofs.law.what_is_claimed_holds.Goals as goal
-
-pub returns : goal.returns
-returns c = holds_throughout

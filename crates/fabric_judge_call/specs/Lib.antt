@@ -1,0 +1,5 @@
+pub mod Said
+pub mod Arguments
+pub mod Words
+pub mod Steps
+pub mod Questions

@@ -1,0 +1,7 @@
+use Rattle.std.proofs.Common.{◌≡◌, map, take}
+use Rattle.fabric_lane_commands.specs.LaneJudged.{lane_step_of}
+use Rattle.fabric_lane_commands.proofs.steps.steps_of.Given as goal
+
+-- the steps so far
+abbrev pub invariant-channels : goal.invariant-channels
+invariant-channels l = l.steps.items ≡ map (lane_step_of l.fabric) (take l.one-index l.cycle)

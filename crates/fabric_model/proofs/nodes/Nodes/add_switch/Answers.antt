@@ -1,0 +1,16 @@
+use Rattle.std.proofs.Common.{rules, arith, ◌≡◌, ◌<◌, ◌^◌, sym, subst, Bool, true, false, List, length, get_or, inr}
+use Rattle.std.proofs.lemmas.Grind.{common_steps}
+use Rattle.fabric_model.specs.Nodes.{AreFree, IsNew, IsOwned, IsRefusedSwitch, NodesOf}
+use Rattle.fabric_model.proofs.OwnedLemmas.{step_more}
+use Rattle.fabric_model.proofs.nodes.Nodes.add_switch.Goals as goal
+
+pub returns-clause-added : goal.returns-clause-added
+returns-clause-added c =
+    let e = c.self.view_is in
+    let new : IsNew c.args.self.now c.args.guid = first_of (search rules, grind (arith, common_steps)) in
+    let free : AreFree c.args.self.now c.args.switch.lids = record {
+      low = c.in_default-lids_fault.ensures.low;
+      free = λ taken. c.in_default-lids_fault.ensures.free (taken.0, taken.1, subst (λ (f : List Bool). get_or f taken.0 false ≡ true) (sym c.deref.ensures.value) (c.self.invariant.2.free taken.0 (subst (λ (n : NodesOf). IsOwned n taken.0) (sym e) taken.2)));
+    } in
+    let room = subst (λ (n : NodesOf). length n.switches < 2 ^ 14) e (let l = c.len.ensures.len in let f = c.if-len-ge-MOST_SWITCHES.false in omega arith) in
+    step_more c.push_switch.result (IsRefusedSwitch c.args.self.now c.args.guid c.args.switch) (λ added. inr (new, free, c.if-switch.false, room, added)) c.push_switch.ensures.added

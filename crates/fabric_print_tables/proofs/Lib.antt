@@ -1,0 +1,5 @@
+mod WordLemmas
+mod CountLemmas
+pub mod KnownLemmas
+mod StepLemmas
+pub mod ReservedLemmas

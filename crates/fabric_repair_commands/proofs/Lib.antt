@@ -1,0 +1,5 @@
+mod ReportLemmas
+mod SetLemmas
+mod SameLemmas
+mod LidLemmas
+mod JudgedLemmas

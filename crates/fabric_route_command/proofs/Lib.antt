@@ -1,0 +1,10 @@
+mod JoinLemmas
+mod ApartLemmas
+mod ArriveLemmas
+mod NoSwitchLemmas
+mod WayLemmas
+mod HostLemmas
+mod UntilLemmas
+mod LoadLemmas
+mod LongestLemmas
+mod GreatestLemmas

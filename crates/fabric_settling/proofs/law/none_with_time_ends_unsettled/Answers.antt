@@ -1,5 +1,0 @@
-use Rattle.fabric_settling.proofs.Whole.{ends_in_time}
-use Rattle.fabric_settling.proofs.law.none_with_time_ends_unsettled.Goals as goal
-
-pub returns : goal.returns
-returns c = ends_in_time

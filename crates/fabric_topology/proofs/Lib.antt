@@ -1,0 +1,2 @@
+pub mod DumpedLemmas
+mod NameLemmas

@@ -1,5 +1,0 @@
-use Rattle.fabric_world.proofs.SoloLemmas.{one_run}
-use Rattle.fabric_world.proofs.law.one_run_on_one_thread.Goals as goal
-
-pub returns : goal.returns
-returns c = one_run

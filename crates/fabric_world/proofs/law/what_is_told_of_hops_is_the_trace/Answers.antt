@@ -1,5 +1,0 @@
-use Rattle.fabric_world.proofs.ToldLemmas.{trace_told}
-use Rattle.fabric_world.proofs.law.what_is_told_of_hops_is_the_trace.Goals as goal
-
-pub returns : goal.returns
-returns c = trace_told

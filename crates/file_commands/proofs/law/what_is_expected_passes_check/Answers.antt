@@ -1,5 +1,0 @@
-use Rattle.file_commands.proofs.OwnLemmas.{own_passes}
-use Rattle.file_commands.proofs.law.what_is_expected_passes_check.Goals as goal
-
-pub returns : goal.returns
-returns c = own_passes

@@ -1,9 +1,0 @@
--- The command `flood`: how broadcasts go in the network of a script.
-
-use Rattle.flood_text.specs.Floods.{IsFloodOf}
-use Rattle.answering.specs.Answer.{Gives}
-use Rattle.answering.specs.Scripted.{gives_said}
-
--- it gives the text that says how broadcasts go, with status 0
-abbrev pub gives_flooded : Gives
-gives_flooded bytes status text = gives_said IsFloodOf bytes status text

@@ -1,6 +1,0 @@
-use Rattle.std.proofs.Common.{refl}
-use Rattle.ib_answering.specs.Answer.{no_fabric}
-use Rattle.ib_answering.proofs.command.found.Goals as goal
-
-pub returns-in-Err-clause-stopped : goal.returns-in-Err-clause-stopped
-returns-in-Err-clause-stopped g c = no_fabric c.in-Err.ensures.none refl

@@ -1,7 +1,0 @@
-use Rattle.std.proofs.Common.{◌≡◌, map, take}
-use Rattle.ib_between.specs.Judged.{turn_of}
-use Rattle.ib_between.proofs.answer.turns_of.Given as goal
-
--- the channels so far
-abbrev pub invariant-channels : goal.invariant-channels
-invariant-channels l = l.turns.items ≡ map (turn_of l.fabric) (take l.one-index l.cycle)

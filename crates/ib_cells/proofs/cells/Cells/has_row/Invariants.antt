@@ -1,7 +1,0 @@
-use Rattle.std.proofs.Common.{◌≡◌, ◌<◌, ◌+◌, ◌*◌, ℕ, None}
-use Rattle.ib_cells.specs.Cells.{tables_of}
-use Rattle.ib_cells.proofs.cells.Cells.has_row.Given as goal
-
--- no switch so far has a port
-abbrev pub invariant-switches : goal.invariant-switches
-invariant-switches l = (switch : ℕ) → switch < l.switch → tables_of l.self switch (64 * l.block + l.bit) ≡ None

@@ -1,7 +1,0 @@
-use Rattle.std.proofs.Common.{subst}
-use Rattle.ib_verdict.specs.Verdict.{IsVerdict}
-use Rattle.ib_commands.proofs.EndLemmas.{cycle_ends}
-use Rattle.ib_commands.proofs.answer.status_of.Goals as goal
-
-pub returns-in-Cycle : goal.returns-in-Cycle
-returns-in-Cycle c fabric tables traffic is = cycle_ends fabric tables traffic c.in-Cycle.channels.items (subst (IsVerdict fabric tables traffic) c.in-Cycle.is is.verdict)

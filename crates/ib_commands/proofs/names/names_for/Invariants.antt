@@ -1,7 +1,0 @@
-use Rattle.std.proofs.Common.{◌≡◌, take}
-use Rattle.ib_commands.specs.Names.{names_for}
-use Rattle.ib_commands.proofs.names.names_for.Given as goal
-
--- the names so far
-abbrev pub invariant-guids : goal.invariant-guids
-invariant-guids l = l.names.items ≡ names_for l.text (take l.guid-index l.guid-items)

@@ -1,8 +1,0 @@
--- What `verify` was asked.
-use Rattle.std.specs.Prelude.{ℕ, List}
-use Rattle.ib_routes.specs.declared.traffic.Traffic.{Traffic}
-
--- a traffic, and the bytes of ranks
-pub record AskedOf : Type 0 where
-  pub traffic : Traffic
-  pub bytes : List ℕ

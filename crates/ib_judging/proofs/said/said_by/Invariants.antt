@@ -1,7 +1,0 @@
-use Rattle.std.proofs.Common.{◌≡◌, drop}
-use Rattle.ib_judging.specs.Said.{nothing_said, say}
-use Rattle.ib_judging.proofs.said.said_by.Given as goal
-
--- all words say what those that are left say after the others
-abbrev pub invariant-words : goal.invariant-words
-invariant-words l = say nothing_said 1 (drop 1 l.words) ≡ say l.said l.place (drop l.place l.words)

@@ -1,7 +1,0 @@
-use Rattle.ib_lane_counts.proofs.KeepLemmas.{AreSidesKept}
-use Rattle.ib_rows.specs.Lanes.{lanes_of}
-use Rattle.ib_lane_counts.proofs.keep.are_links_kept.Given as goal
-
--- the sides so far
-abbrev pub invariant-places : goal.invariant-places
-invariant-places l = AreSidesKept l.fabric (lanes_of l.lanes) l.used l.place

@@ -1,7 +1,0 @@
-use Rattle.ib_lane_counts.proofs.KeepLemmas.{AreSwitchesBelow}
-use Rattle.ib_rows.specs.Lanes.{lanes_of}
-use Rattle.ib_lane_counts.proofs.keep.are_switches_kept.Given as goal
-
--- the switches so far
-abbrev pub invariant-switches : goal.invariant-switches
-invariant-switches l = AreSwitchesBelow l.fabric (lanes_of l.lanes) l.used l.switch

@@ -1,8 +1,0 @@
-use Rattle.std.proofs.Common.{◌<◌, ℕ}
-use Rattle.ib_lane_counts.specs.Keep.{IsKeptBy}
-use Rattle.ib_rows.specs.Lanes.{lanes_of}
-use Rattle.ib_lane_counts.proofs.keep.is_kept_at.Given as goal
-
--- the ports so far
-abbrev pub invariant-ports : goal.invariant-ports
-invariant-ports l = (port : ℕ) → port < l.port → IsKeptBy l.fabric (lanes_of l.lanes) l.used l.at port

@@ -1,9 +1,0 @@
-use Rattle.ib_cells.specs.Cells.{tables_of}
-use Rattle.ib_counts.specs.Steps.{place_of}
-use Rattle.ib_lane_counts.specs.Sums.{AreSums}
-use Rattle.ib_rows.specs.Levels.{levels_of}
-use Rattle.ib_lane_counts.proofs.sums.Sums.with_source.Given as goal
-
--- the sums with the LIDs so far
-abbrev pub invariant-lids : goal.invariant-lids
-invariant-lids l = AreSums l.routing.fabric.now (tables_of l.routing.cells.now) l.routing.traffic (levels_of l.routing.levels.now) (place_of l.routing.fabric.now l.source) l.lid l.sums

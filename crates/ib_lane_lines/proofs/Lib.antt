@@ -1,2 +1,0 @@
-mod LaneRowLemmas
-mod LanePictureLemmas

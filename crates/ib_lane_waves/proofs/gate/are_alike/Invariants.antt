@@ -1,6 +1,0 @@
-use Rattle.std.proofs.Common.{◌≡◌, ◌<◌, ℕ}
-use Rattle.ib_rows.specs.Lanes.{told_row}
-use Rattle.ib_lane_waves.proofs.gate.are_alike.Given as goal
-
-abbrev pub invariant-ports : goal.invariant-ports
-invariant-ports l = (port : ℕ) → port < l.port → told_row l.lanes l.one.switch l.one.port port ≡ told_row l.lanes l.one.switch l.other.port port

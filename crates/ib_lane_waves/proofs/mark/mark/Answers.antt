@@ -1,5 +1,0 @@
-use Rattle.ib_routes.proofs.MarkLemmas.{marked}
-use Rattle.ib_lane_waves.proofs.mark.mark.Goals as goal
-
-pub returns : goal.returns
-returns c = marked c.args.words.now c.args.place c.args.bit c.requires.place c.requires.bit

@@ -1,7 +1,0 @@
-use Rattle.ib_cells.specs.Cells.{tables_of}
-use Rattle.ib_rows.specs.Levels.{levels_of}
-use Rattle.ib_lane_waves.proofs.SentLemmas.{AreSentBelow}
-use Rattle.ib_lane_waves.proofs.start.put_sent.Given as goal
-
-abbrev pub invariant-sources : goal.invariant-sources
-invariant-sources l = AreSentBelow l.routes.routing.fabric.now (tables_of l.routes.routing.cells.now) l.routes.routing.traffic l.routes.block (levels_of l.routes.routing.levels.now) l.gates.gates.items l.top l.place l.sent

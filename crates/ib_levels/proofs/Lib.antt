@@ -1,2 +1,0 @@
-pub mod LevelsLaws
-pub mod ReadingLemmas

@@ -1,5 +1,0 @@
-use Rattle.ib_levels.specs.declared.reading.Part.TheVariants.{Start}
-use Rattle.ib_levels.proofs.reading.Reading.new.Goals as goal
-
-pub returns-clause-none : goal.returns-clause-none
-returns-clause-none c i = record { part = Start; levels = λ source lid. c.in_ok-new.ensures.none source lid i }

@@ -1,4 +1,0 @@
-pub mod LevelLines
-pub mod Levels
-pub mod Readings
-pub mod Reads

@@ -1,6 +1,0 @@
-mod ReportLemmas
-mod KnownLemmas
-mod SetLemmas
-mod SameLemmas
-mod LidLemmas
-mod JudgedLemmas

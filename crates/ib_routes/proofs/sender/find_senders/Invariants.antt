@@ -1,5 +1,0 @@
-use Rattle.ib_routes.specs.Starts.{AreAllSendersBelow}
-use Rattle.ib_routes.proofs.sender.find_senders.Given as goal
-
-abbrev pub invariant-ends : goal.invariant-ends
-invariant-ends l = AreAllSendersBelow l.fabric l.end l.senders.items

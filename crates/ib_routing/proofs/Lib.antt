@@ -1,4 +1,0 @@
-mod JoinLemmas
-mod ApartLemmas
-mod ArriveLemmas
-mod NoSwitchLemmas

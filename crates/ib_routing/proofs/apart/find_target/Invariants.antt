@@ -1,7 +1,0 @@
-use Rattle.std.proofs.Common.{◌<◌, ℕ}
-use Rattle.ib_routing.specs.Parts.{IsOtherTarget}
-use Rattle.ib_routing.proofs.apart.find_target.Given as goal
-
--- none so far
-abbrev pub invariant-lids : goal.invariant-lids
-invariant-lids l = (lid : ℕ) → lid < l.lid → ¬ IsOtherTarget l.fabric l.traffic l.labels l.label lid

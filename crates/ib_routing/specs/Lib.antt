@@ -1,4 +1,0 @@
-pub mod Joined
-pub mod Parts
-pub mod Measured
-pub mod Routed

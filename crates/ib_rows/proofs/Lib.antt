@@ -1,5 +1,0 @@
-pub mod RowLemmas
-pub mod BlockLemmas
-pub mod SelectLemmas
-mod SameLemmas
-mod InUseLemmas

@@ -1,9 +1,0 @@
-use Rattle.std.proofs.Common.{◌≡◌, ◌<◌, ◌↔◌, ℕ, take}
-use Rattle.std.specs.Int.{bit_at}
-use Rattle.ib_rows.specs.InUse.{IsAskedTo}
-use Rattle.ib_rows.specs.PathLevels.{told_levels}
-use Rattle.ib_rows.proofs.in_use.asked_to.Given as goal
-
--- the levels to the LIDs so far
-abbrev pub invariant-lids : goal.invariant-lids
-invariant-lids l = (level : ℕ) → level < 16 → ((bit_at l.levels level ≡ 1) ↔ IsAskedTo (told_levels l.told) l.owner (take l.lid-index l.lids) level)

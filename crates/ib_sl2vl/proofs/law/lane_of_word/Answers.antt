@@ -1,5 +1,0 @@
-use Rattle.ib_sl2vl.proofs.LaneLemmas.{lane_of_word}
-use Rattle.ib_sl2vl.proofs.law.lane_of_word.Goals as goal
-
-pub returns : goal.returns
-returns c = lane_of_word

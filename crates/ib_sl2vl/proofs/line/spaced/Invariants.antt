@@ -1,7 +1,0 @@
-use Rattle.std.proofs.Common.{◌≡◌, take}
-use Rattle.ib_sl2vl.specs.LaneLines.{spaced}
-use Rattle.ib_sl2vl.proofs.line.spaced.Given as goal
-
--- so many bytes are copied
-abbrev pub invariant-bytes : goal.invariant-bytes
-invariant-bytes l = l.text.items ≡ spaced (take l.byte-index l.line)

@@ -1,4 +1,0 @@
-pub mod LaneLines
-pub mod Lanes
-pub mod Readings
-pub mod Reads

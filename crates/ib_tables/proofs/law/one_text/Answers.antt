@@ -1,5 +1,0 @@
-use Rattle.ib_tables.proofs.TableLaws.{one_text}
-use Rattle.ib_tables.proofs.law.one_text.Goals as goal
-
-pub returns : goal.returns
-returns c = one_text

@@ -1,8 +1,0 @@
-use Rattle.std.proofs.Common.{◌∙◌, sym, ap, take}
-use Rattle.std.specs.Option.{option_and_then}
-use Rattle.ib_words.specs.Digits.{guid}
-use Rattle.ib_tables.proofs.SaidLemmas.{front_of}
-use Rattle.ib_tables.proofs.line.head_guid.Goals as goal
-
-pub returns : goal.returns
-returns c = c.guid.ensures ∙ ap guid (front_of c.in_ok-_front.rest.now c.min.result c.min.ensures) ∙ sym (ap (option_and_then (λ parts. guid (take 16 parts.1))) c.in_ok-_front.ensures)

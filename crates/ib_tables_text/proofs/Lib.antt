@@ -1,3 +1,0 @@
-mod WordLemmas
-mod CountLemmas
-mod StepLemmas

@@ -1,7 +1,0 @@
-use Rattle.std.proofs.Common.{refl}
-use Rattle.ib_topology.specs.Dumped.{far_parts}
-use Rattle.ib_topology.proofs.dumped.far_parts.Goals as goal
-
-pub returns : goal.returns
-unfolding far_parts
-returns c = rw (c.in_ok-both.ensures, c.in_ok-front.ensures, c.in_ok-heads.ensures) refl

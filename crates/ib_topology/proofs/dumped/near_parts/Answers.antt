@@ -1,7 +1,0 @@
-use Rattle.std.proofs.Common.{refl}
-use Rattle.ib_topology.specs.Dumped.{near_parts}
-use Rattle.ib_topology.proofs.dumped.near_parts.Goals as goal
-
-pub returns : goal.returns
-unfolding near_parts
-returns c = rw (c.in_ok-front.ensures, c.in_ok-head.ensures) refl

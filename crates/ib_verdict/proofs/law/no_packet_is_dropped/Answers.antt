@@ -1,5 +1,0 @@
-use Rattle.ib_verdict.proofs.PacketLemmas.{arrives}
-use Rattle.ib_verdict.proofs.law.no_packet_is_dropped.Goals as goal
-
-pub returns : goal.returns
-returns c fabric tables traffic channel packet kept stands leaves = arrives fabric tables traffic kept channel packet stands leaves

@@ -1,6 +1,0 @@
-use Rattle.channel_graph.proofs.RankLemmas.{fall_no_cycle}
-use Rattle.ib_routes.specs.Routes.{DependsOn}
-use Rattle.ib_verdict.proofs.law.ranks_suffice.Goals as goal
-
-pub returns : goal.returns
-returns c fabric tables traffic rank fall = fall_no_cycle (DependsOn fabric tables traffic) rank fall

@@ -1,6 +1,0 @@
-use Rattle.ib_cells.specs.Cells.{tables_of}
-use Rattle.ib_verdict.proofs.VerifyLemmas.{all_fall}
-use Rattle.ib_verdict.proofs.verify.find_rise.Goals as goal
-
-pub returns-in-None : goal.returns-in-None
-returns-in-None c = all_fall c.args.fabric.now (tables_of c.args.cells.now) c.args.traffic c.args.graph.now c.requires.graph c.args.ranks.now (rw c.in-None.is at c.first_rise.ensures)

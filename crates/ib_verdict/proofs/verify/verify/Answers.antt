@@ -1,6 +1,0 @@
-use Rattle.ib_cells.specs.Cells.{tables_of}
-use Rattle.ib_verdict.proofs.VerifyLemmas.{verified}
-use Rattle.ib_verdict.proofs.verify.verify.Goals as goal
-
-pub returns : goal.returns
-returns c = verified c.args.fabric.now (tables_of c.args.cells.now) c.args.traffic c.args.ranks.now c.in_ok-rise.rise c.in_ok-found.found.stopped c.in_ok-rise.ensures c.in_ok-found.ensures.stopped

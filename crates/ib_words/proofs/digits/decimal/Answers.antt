@@ -1,5 +1,0 @@
-use Rattle.ib_words.proofs.DigitLemmas.{decimal_is}
-use Rattle.ib_words.proofs.digits.decimal.Goals as goal
-
-pub returns : goal.returns
-returns c = decimal_is c.args.word.now c.number_between.result c.number_between.ensures.number

@@ -1,6 +1,0 @@
-use Rattle.std.proofs.Common.{◌≡◌}
-use Rattle.text_lines.proofs.line.parts.Given as goal
-
--- the parts so far
-abbrev pub invariant-parts : goal.invariant-parts
-invariant-parts l = l.parts.items ≡ l.yielded

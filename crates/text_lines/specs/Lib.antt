@@ -1,7 +1,0 @@
-pub mod Words
-pub mod Lines
-pub mod Names
-pub mod Faults
-pub mod Chains
-pub mod Grammar
-pub mod Stops

@@ -1,8 +1,0 @@
-use Rattle.std.specs.Prelude.{ℕ, List, Option, position}
-use Rattle.std.specs.Str.{bytes_eq}
-
--- Names, in a list.
-
--- the place of a name
-unfoldable pub place_of : List (List ℕ) → List ℕ → Option ℕ
-place_of names name = position (λ other. bytes_eq other name) names

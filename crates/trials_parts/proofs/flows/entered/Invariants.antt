@@ -1,5 +1,0 @@
-use Rattle.trials_parts.proofs.flows.entered.Given as goal
-
--- the rows of the exits
-abbrev pub ghost-new : goal.ghost-new
-ghost-new g a = g.own

@@ -1,5 +1,0 @@
-use Rattle.trials_parts.proofs.flows.over.Given as goal
-
--- the rows that are at hand
-abbrev pub ghost-entered : goal.ghost-entered
-ghost-entered a = a._rows.now
